@@ -200,7 +200,7 @@ class AskedLibrary:
         self.command = command
         self.option = option
         self.texts = texts
-        self.plan = {"segments": segments} if segments > SEGMENTS else {}
+        self.plan: dict[str, Any] = {"segments": segments} if segments > SEGMENTS else {}
 
     def __enter__(self) -> AskedLibrary:
         return self
@@ -213,7 +213,8 @@ class AskedLibrary:
         where nobody waits any more."""
         call = getattr(self.package, call_for(self.command, self.option))
         words = [self.command] if self.option else []
-        made = aside(partial(call, *words, *(held(text.file) for text in self.texts), **self.plan))
+        named = {**self.plan, **READINGS.get(self.option, {})}
+        made = aside(partial(call, *words, *(held(text.file) for text in self.texts), **named))
         waited(f"overlay {self.command}", lambda seconds: bool(wait([made], seconds).done))
         return made.result()
 
@@ -235,6 +236,10 @@ class AskedLibrary:
 # The package's calls that aren't named as the program's commands are, and those for all operations
 # with an option.
 CALLS = {FACES: "faces_text", COVERED: "covered_text", AREAS: "measured"}
+
+
+# How those calls are told of a reading, which by itself is of what features cover.
+READINGS: dict[str, dict[str, Any]] = {AREAS: {"reading": "parity"}}
 
 
 def call_for(command: str, option: str) -> str:

@@ -46,7 +46,8 @@ def stand_in(executable, folder):
 
         return answer
 
-    def measured(command, *texts, **named):
+    def measured(command, *texts, reading, **named):
+        assert reading == "parity"
         ended = done(command, "--areas")(*texts, **named)
         areas, steps = (list(map(int, line.split()[1:])) for line in ended.stderr.decode().splitlines())
         a, b = (SimpleNamespace(twice_area=twice, steps=count) for twice, count in zip(areas, steps))
@@ -152,7 +153,7 @@ def test_a_package_that_measures_nothing_leaves_it_to_the_program(gis, package, 
 def test_a_refusal_of_the_package_names_the_layer(gis, package, monkeypatch, tmp_path):
     monkeypatch.delenv("OVERLAY")
 
-    def refuse(operation, a, b):
+    def refuse(operation, a, b, reading):
         raise Refused("B: 1 syntax at 5", "B")
 
     package[0].measured = refuse
@@ -170,7 +171,7 @@ from pathlib import Path
 class Refused(ValueError): pass
 class OutOfMemory(MemoryError): pass
 
-def measured(operation, a, b):
+def measured(operation, a, b, reading):
     signal.pthread_sigmask(signal.SIG_BLOCK, [signal.SIGINT, signal.SIGTERM])
     Path("begun").touch()
     time.sleep(60)
@@ -194,7 +195,7 @@ def test_a_call_is_cancelled_while_the_package_works(package, monkeypatch, tmp_p
     monkeypatch.chdir(tmp_path)
     begun, cancelled = threading.Event(), threading.Event()
 
-    def measured(operation, a, b):
+    def measured(operation, a, b, reading):
         begun.set()
         assert cancelled.wait(60), "nobody is heard while it works"
 

@@ -7,7 +7,14 @@ Layers are texts of POLYGON and MULTIPOLYGON geometries with whole coordinates, 
 >>> intersection(parcels, zones)
 'MULTIPOLYGON (((2 2, 4 2, 4 4, 2 4, 2 2)))\\n'
 
-The answer is of the first layer's type. A call runs on the calling thread, and the interpreter's lock is released meanwhile. The
+Where features of a layer overlap, the layer has what any of them covers; by `reading="parity"` it has what an odd number of them covers:
+
+>>> union("POLYGON ((0 0, 4 0, 4 4, 0 4, 0 0)) POLYGON ((1 1, 2 1, 2 2, 1 1))", "")
+'MULTIPOLYGON (((0 0, 4 0, 4 4, 0 4, 0 0)))\\n'
+>>> union("POLYGON ((0 0, 4 0, 4 4, 0 4, 0 0)) POLYGON ((1 1, 2 1, 2 2, 1 1))", "", reading="parity")
+'MULTIPOLYGON (((0 0, 4 0, 4 4, 0 4, 0 0), (1 1, 2 2, 2 1, 1 1)))\\n'
+
+One geometry is read by the even-odd rule always. The answer is of the first layer's type. A call runs on the calling thread, and the interpreter's lock is released meanwhile. The
 side of a tile, in grid units, has no influence on the answer; where none is given, one is taken that fits the layers. Both layers
 together may have as many segments as is said, 1,048,576 where nothing is; ten million of parcels take some 1 GB of memory.
 
@@ -18,7 +25,7 @@ Coordinates that aren't whole are brought to a grid whose unit is said, and the 
 
 A coordinate goes to the nearest multiple of the unit, halves upward and to the right, exactly. So are layers of other kinds: geometries
 of Shapely, WKB as bytes, and coordinates as numpy arrays of shape (n, 2), each a ring, or a tuple of such rings. A list of geometries
-is a layer whose features these are, and it covers what any of them covers. Where no unit is said of these it is 0.001, or 0.000001 of
+is a layer whose features these are. Where no unit is said of these it is 0.001, or 0.000001 of
 frames and series in degrees. The answer is of the first layer's kind. A grid has room for 2^29 units each way; an `origin` that is said
 is the point of which no coordinate may lie further than 2^28 units, and else one is taken that fits the layers.
 
@@ -40,15 +47,19 @@ Data frames of GeoPandas are overlaid by `overlay` and dissolved by `dissolve`.
 
 from __future__ import annotations
 
-from typing import Any, Iterable, List, NamedTuple, Optional, Protocol, Sequence, Tuple, TypeVar, Union, overload
+from typing import Any, Optional, Union
 
 from . import _asking, _calls, _edges, _frames, _kinds, _measuring, _pairs, _rows, _wkb
+from ._answers import Face, Row
 from ._asking import Plan
 from ._calls import CALLS, Operation
 from ._edges import Edge
 from ._faults import GeometryError, OutOfMemory, Refusal, Refused
 from ._grid import Origin, Unit
 from ._measuring import LayerMeasures, Measured
+from ._reading import COVERED, Reading, is_covered
+from ._signatures import AnyText, Frame, OnLayers, Text, measuring, on_edges, on_faces, on_pairs, overlaying
+from ._texts import has_several
 
 __all__ = [
     "Edge",
@@ -78,52 +89,8 @@ __all__ = [
 __version__ = "1.0.0"
 
 # Exceptions are pickled and told of by the names that users import.
-for _public in (Edge, GeometryError, LayerMeasures, Measured, Operation, OutOfMemory, Refusal, Refused):
+for _public in (Edge, Face, GeometryError, LayerMeasures, Measured, Operation, OutOfMemory, Refusal, Refused, Row):
     _public.__module__ = __name__
-
-# A layer's text, and the answer's: str, or bytes and what has a buffer of bytes. Bytes may be WKB,
-# too, whose edges and faces are others than those of texts, so that their types tell of str alone.
-Text = TypeVar("Text", str, bytes)
-
-
-class Geometry(Protocol):
-    """A geometry of Shapely's."""
-
-    @property
-    def geom_type(self) -> str: ...
-
-    @property
-    def wkb(self) -> bytes: ...
-
-
-# A layer of any kind: a text or WKB, a geometry, an array of coordinates, or several geometries.
-Layer = Union[str, bytes, Geometry, Iterable[Any]]
-
-
-class Row(NamedTuple):
-    """All points that just the same features cover: twice their area, in grid units; for each layer the numbers of these features,
-    from 1 and ascending; and the points as one MULTIPOLYGON text.
-
-    >>> Row(2, ((1,), ()), "MULTIPOLYGON (((0 0, 1 0, 1 1, 0 1, 0 0)))").twice_area / 2
-    1.0
-    """
-
-    twice_area: int
-    ids: Tuple[Tuple[int, ...], ...]
-    wkt: str
-
-
-class Face(NamedTuple):
-    """All points that just the same features cover, of layers on a grid whose unit is not 1: their area, in square units of the
-    coordinates; for each layer the numbers of these features, from 1 and ascending; and the points, of the first layer's kind.
-
-    >>> Face(0.5, ((1,), ()), "MULTIPOLYGON (((0 0, 1 0, 1 1, 0 1, 0 0)))").area
-    0.5
-    """
-
-    area: float
-    ids: Tuple[Tuple[int, ...], ...]
-    geometry: Any
 
 
 def _is_text(layer: Any) -> bool:
@@ -132,69 +99,90 @@ def _is_text(layer: Any) -> bool:
     return isinstance(layer, str) or _kinds.kind_of(layer) is _kinds.bytes_answer
 
 
-def _asked(call: int, a: Any, b: Any, side: Optional[int], segments: Optional[int], grid: Optional[Unit], origin: Optional[Origin]) -> Any:
-    if grid is None and origin is None and _is_text(a) and _is_text(b):
-        text = _calls.text_of(call, _calls.bytes_of(a), _calls.bytes_of(b), side, segments)
-        return text.decode("ascii") if isinstance(a, str) else text
-    plan = Plan(side, segments, grid, origin)
-    return _edges.edges(a, b, plan) if call == CALLS[Operation.EDGES] else _asking.operation(call, a, b, plan)
+def _of_texts(word: Operation, a: Any, b: Any, plan: Plan) -> Any:
+    texts = _calls.bytes_of(a), _calls.bytes_of(b)
+    covered = is_covered(plan.reading) and word is not Operation.EDGES and any(map(has_several, texts))
+    text = _calls.text_of(CALLS[word], *texts, plan.side, plan.segments, covered)
+    return text.decode("ascii") if isinstance(a, str) else text
 
 
-class _Frame(Protocol):
-    """A data frame of GeoPandas."""
-
-    @property
-    def columns(self) -> Any: ...
-
-    @property
-    def geometry(self) -> Any: ...
+def _asked(word: Operation, a: Any, b: Any, plan: Plan) -> Any:
+    if not is_covered(plan.reading) and word is Operation.EDGES:
+        raise ValueError("edges have no reading: they are those of all features")
+    if plan.grid is None and plan.origin is None and _is_text(a) and _is_text(b):
+        return _of_texts(word, a, b, plan)
+    return _edges.edges(a, b, plan) if word is Operation.EDGES else _asking.operation(CALLS[word], a, b, plan)
 
 
-Frame = TypeVar("Frame", bound=_Frame)
+def _only_areas(operation: Union[Operation, str], why: str) -> Operation:
+    if Operation(operation) is Operation.EDGES:
+        raise ValueError(f"{why}: the operation is one of union, intersection, difference and symdifference")
+    return Operation(operation)
 
 
-@overload
-def overlay(
-    operation: Operation,
-    a: Text,
-    b: Union[str, bytes],
-    side: Optional[int] = None,
-    segments: Optional[int] = None,
-    *,
-    grid: Optional[Unit] = None,
-    origin: Optional[Origin] = None,
-) -> Text: ...
+def _operation(word: Operation, told: str) -> OnLayers:
+    def call(
+        a: Any,
+        b: Any,
+        side: Optional[int] = None,
+        segments: Optional[int] = None,
+        *,
+        grid: Optional[Unit] = None,
+        origin: Optional[Origin] = None,
+        reading: Reading = COVERED,
+    ) -> Any:
+        return _asked(word, a, b, Plan(side, segments, grid, origin, reading))
+
+    call.__name__ = call.__qualname__ = word.value
+    call.__doc__ = told
+    return call
 
 
-@overload
-def overlay(
-    operation: Operation,
-    a: Layer,
-    b: Layer,
-    side: Optional[int] = None,
-    segments: Optional[int] = None,
-    *,
-    grid: Optional[Unit] = None,
-    origin: Optional[Origin] = None,
-) -> Any: ...
+union = _operation(
+    Operation.UNION,
+    """The points of either layer, as one MULTIPOLYGON line or of the first layer's kind.
+
+    >>> union("POLYGON ((0 0, 4 0, 4 4, 0 4, 0 0))", "POLYGON ((4 0, 6 0, 6 4, 4 4, 4 0))")
+    'MULTIPOLYGON (((0 0, 4 0, 6 0, 6 4, 4 4, 0 4, 0 0)))\\n'
+    >>> union(b"POLYGON ((0 0, .5 0, .5 .5, 0 0))", "POLYGON ((.51 0, 1 0, 1 1, .51 0))", grid="0.1")
+    b'MULTIPOLYGON (((0 0, 0.5 0, 0.5 0.5, 0 0)), ((0.5 0, 1 0, 1 1, 0.5 0)))\\n'
+    """,
+)
+
+intersection = _operation(
+    Operation.INTERSECTION,
+    """The points of both layers, as one MULTIPOLYGON line or of the first layer's kind.
+
+    >>> intersection("POLYGON ((0 0, 4 0, 4 4, 0 4, 0 0))", "POLYGON ((7 0, 9 0, 9 2, 7 0))")
+    'MULTIPOLYGON EMPTY\\n'
+    """,
+)
+
+difference = _operation(
+    Operation.DIFFERENCE,
+    """The points of the first layer and not of the second, as one MULTIPOLYGON line or of the first layer's kind.
+
+    >>> difference("POLYGON ((0 0, 9 0, 9 9, 0 9, 0 0))", "POLYGON ((3 3, 6 3, 6 6, 3 6, 3 3))")
+    'MULTIPOLYGON (((0 0, 9 0, 9 9, 0 9, 0 0), (3 3, 3 6, 6 6, 6 3, 3 3)))\\n'
+    """,
+)
+
+symdifference = _operation(
+    Operation.SYMDIFFERENCE,
+    """The points of just one of the layers, as one MULTIPOLYGON line or of the first layer's kind.
+
+    >>> square = "POLYGON ((0 0, 4 0, 4 4, 0 4, 0 0))"
+    >>> symdifference(square, square)
+    'MULTIPOLYGON EMPTY\\n'
+    """,
+)
 
 
-@overload
-def overlay(
-    df1: Frame,
-    df2: _Frame,
-    how: str = "intersection",
-    keep_geom_type: Optional[bool] = None,
-    make_valid: bool = True,
-    *,
-    grid: Optional[Unit] = None,
-    origin: Optional[Origin] = None,
-) -> Frame: ...
-
-
+@overlaying
 def overlay(*given: Any, **named: Any) -> Any:
-    """What an operation answers on two layers, `overlay(operation, a, b)`; or what geopandas.overlay answers on two data frames,
-    `overlay(df1, df2, how="intersection", keep_geom_type=None, make_valid=True, grid=.., origin=..)`.
+    """What an operation answers on two layers, `overlay(operation, a, b, side=None, segments=None, grid=.., origin=.., reading="covered")`; or
+    what geopandas.overlay answers on two data frames, `overlay(df1, df2, how="intersection", keep_geom_type=None, make_valid=True, grid=..,
+    origin=..)`.
 
     >>> overlay(Operation.UNION, b"POLYGON ((0 0, 1 0, 0 1, 0 0))", "polygon empty")
     b'MULTIPOLYGON (((0 0, 1 0, 0 1, 0 0)))\\n'
@@ -219,201 +207,12 @@ def _overlay_layers(
     *,
     grid: Optional[Unit] = None,
     origin: Optional[Origin] = None,
+    reading: Reading = COVERED,
 ) -> Any:
-    return _asked(CALLS[Operation(operation)], a, b, side, segments, grid, origin)
+    return _asked(Operation(operation), a, b, Plan(side, segments, grid, origin, reading))
 
 
-@overload
-def union(
-    a: Text,
-    b: Union[str, bytes],
-    side: Optional[int] = None,
-    segments: Optional[int] = None,
-    *,
-    grid: Optional[Unit] = None,
-    origin: Optional[Origin] = None,
-) -> Text: ...
-
-
-@overload
-def union(
-    a: Layer,
-    b: Layer,
-    side: Optional[int] = None,
-    segments: Optional[int] = None,
-    *,
-    grid: Optional[Unit] = None,
-    origin: Optional[Origin] = None,
-) -> Any: ...
-
-
-def union(
-    a: Any,
-    b: Any,
-    side: Optional[int] = None,
-    segments: Optional[int] = None,
-    *,
-    grid: Optional[Unit] = None,
-    origin: Optional[Origin] = None,
-) -> Any:
-    """The points of either layer, as one MULTIPOLYGON line or of the first layer's kind.
-
-    >>> union("POLYGON ((0 0, 4 0, 4 4, 0 4, 0 0))", "POLYGON ((4 0, 6 0, 6 4, 4 4, 4 0))")
-    'MULTIPOLYGON (((0 0, 4 0, 6 0, 6 4, 4 4, 0 4, 0 0)))\\n'
-    >>> union(b"POLYGON ((0 0, .5 0, .5 .5, 0 0))", "POLYGON ((.51 0, 1 0, 1 1, .51 0))", grid="0.1")
-    b'MULTIPOLYGON (((0 0, 0.5 0, 0.5 0.5, 0 0)), ((0.5 0, 1 0, 1 1, 0.5 0)))\\n'
-    """
-    return _asked(0, a, b, side, segments, grid, origin)
-
-
-@overload
-def intersection(
-    a: Text,
-    b: Union[str, bytes],
-    side: Optional[int] = None,
-    segments: Optional[int] = None,
-    *,
-    grid: Optional[Unit] = None,
-    origin: Optional[Origin] = None,
-) -> Text: ...
-
-
-@overload
-def intersection(
-    a: Layer,
-    b: Layer,
-    side: Optional[int] = None,
-    segments: Optional[int] = None,
-    *,
-    grid: Optional[Unit] = None,
-    origin: Optional[Origin] = None,
-) -> Any: ...
-
-
-def intersection(
-    a: Any,
-    b: Any,
-    side: Optional[int] = None,
-    segments: Optional[int] = None,
-    *,
-    grid: Optional[Unit] = None,
-    origin: Optional[Origin] = None,
-) -> Any:
-    """The points of both layers, as one MULTIPOLYGON line or of the first layer's kind.
-
-    >>> intersection("POLYGON ((0 0, 4 0, 4 4, 0 4, 0 0))", "POLYGON ((7 0, 9 0, 9 2, 7 0))")
-    'MULTIPOLYGON EMPTY\\n'
-    """
-    return _asked(1, a, b, side, segments, grid, origin)
-
-
-@overload
-def difference(
-    a: Text,
-    b: Union[str, bytes],
-    side: Optional[int] = None,
-    segments: Optional[int] = None,
-    *,
-    grid: Optional[Unit] = None,
-    origin: Optional[Origin] = None,
-) -> Text: ...
-
-
-@overload
-def difference(
-    a: Layer,
-    b: Layer,
-    side: Optional[int] = None,
-    segments: Optional[int] = None,
-    *,
-    grid: Optional[Unit] = None,
-    origin: Optional[Origin] = None,
-) -> Any: ...
-
-
-def difference(
-    a: Any,
-    b: Any,
-    side: Optional[int] = None,
-    segments: Optional[int] = None,
-    *,
-    grid: Optional[Unit] = None,
-    origin: Optional[Origin] = None,
-) -> Any:
-    """The points of the first layer and not of the second, as one MULTIPOLYGON line or of the first layer's kind.
-
-    >>> difference("POLYGON ((0 0, 9 0, 9 9, 0 9, 0 0))", "POLYGON ((3 3, 6 3, 6 6, 3 6, 3 3))")
-    'MULTIPOLYGON (((0 0, 9 0, 9 9, 0 9, 0 0), (3 3, 3 6, 6 6, 6 3, 3 3)))\\n'
-    """
-    return _asked(2, a, b, side, segments, grid, origin)
-
-
-@overload
-def symdifference(
-    a: Text,
-    b: Union[str, bytes],
-    side: Optional[int] = None,
-    segments: Optional[int] = None,
-    *,
-    grid: Optional[Unit] = None,
-    origin: Optional[Origin] = None,
-) -> Text: ...
-
-
-@overload
-def symdifference(
-    a: Layer,
-    b: Layer,
-    side: Optional[int] = None,
-    segments: Optional[int] = None,
-    *,
-    grid: Optional[Unit] = None,
-    origin: Optional[Origin] = None,
-) -> Any: ...
-
-
-def symdifference(
-    a: Any,
-    b: Any,
-    side: Optional[int] = None,
-    segments: Optional[int] = None,
-    *,
-    grid: Optional[Unit] = None,
-    origin: Optional[Origin] = None,
-) -> Any:
-    """The points of just one of the layers, as one MULTIPOLYGON line or of the first layer's kind.
-
-    >>> square = "POLYGON ((0 0, 4 0, 4 4, 0 4, 0 0))"
-    >>> symdifference(square, square)
-    'MULTIPOLYGON EMPTY\\n'
-    """
-    return _asked(3, a, b, side, segments, grid, origin)
-
-
-@overload
-def edges(
-    a: str,
-    b: Union[str, bytes],
-    side: Optional[int] = None,
-    segments: Optional[int] = None,
-    *,
-    grid: Optional[Unit] = None,
-    origin: Optional[Origin] = None,
-) -> str: ...
-
-
-@overload
-def edges(
-    a: Layer,
-    b: Layer,
-    side: Optional[int] = None,
-    segments: Optional[int] = None,
-    *,
-    grid: Optional[Unit] = None,
-    origin: Optional[Origin] = None,
-) -> Any: ...
-
-
+@on_edges
 def edges(
     a: Any,
     b: Any,
@@ -432,35 +231,10 @@ def edges(
     0 1 1 1 2 0
     1 0 1 1 1 0
     """
-    return _asked(CALLS[Operation.EDGES], a, b, side, segments, grid, origin)
+    return _asked(Operation.EDGES, a, b, Plan(side, segments, grid, origin))
 
 
-@overload
-def measured(
-    operation: Union[Operation, str],
-    a: Text,
-    b: Union[str, bytes],
-    side: Optional[int] = None,
-    segments: Optional[int] = None,
-    *,
-    grid: Optional[Unit] = None,
-    origin: Optional[Origin] = None,
-) -> Measured[Text]: ...
-
-
-@overload
-def measured(
-    operation: Union[Operation, str],
-    a: Layer,
-    b: Layer,
-    side: Optional[int] = None,
-    segments: Optional[int] = None,
-    *,
-    grid: Optional[Unit] = None,
-    origin: Optional[Origin] = None,
-) -> Measured[Any]: ...
-
-
+@measuring
 def measured(
     operation: Union[Operation, str],
     a: Any,
@@ -470,6 +244,7 @@ def measured(
     *,
     grid: Optional[Unit] = None,
     origin: Optional[Origin] = None,
+    reading: Reading = COVERED,
 ) -> Measured[Any]:
     """What an operation answers, with the areas of the result and of both layers after rounding, and how many steps the routes of each
     layer's segments have.
@@ -477,48 +252,38 @@ def measured(
     >>> squares = "POLYGON ((0 0, 4 0, 4 4, 0 4, 0 0)) POLYGON ((2 0, 6 0, 6 4, 2 4, 2 0))"
     >>> told = measured("difference", squares, "POLYGON ((0 1, 1 1, 1 2, 0 2, 0 1))")
     >>> told.result
-    'MULTIPOLYGON (((0 0, 2 0, 2 4, 0 4, 0 2, 1 2, 1 1, 0 1, 0 0)), ((4 0, 6 0, 6 4, 4 4, 4 0)))\\n'
+    'MULTIPOLYGON (((0 0, 2 0, 4 0, 6 0, 6 4, 4 4, 2 4, 0 4, 0 2, 1 2, 1 1, 0 1, 0 0)))\\n'
     >>> told.area, told.a.area, told.b.area
-    (15.0, 16.0, 1.0)
+    (23.0, 24.0, 1.0)
     >>> told.a.steps, told.b.steps
     (14, 4)
 
     Areas are in square units of the coordinates, as numbers next to the exact ones; `twice_area` has them in squares of the grid, exactly.
-    A layer's area is that of the points that it has as it is read. By parity, as here, overlaps cancel: what the polygons have in sum beyond
-    it lies under several of them, but for what rounding took or gave. A list has what any of its geometries covers, and where there are
-    several the faces are computed too. A segment has one step, and one more for each grid point that it is led through on its way, where it
-    meets another border or is bent.
+    A layer's area is that of the points that it covers, for which the faces are computed where features overlap. By parity overlaps cancel:
+    what the polygons have in sum beyond the area lies under several of them, but for what rounding took or gave. A segment has one step, and
+    one more for each grid point that it is led through on its way, where it meets another border or is bent.
+
+    >>> measured("union", squares, "", reading="parity").area
+    16.0
     """
-    word = Operation(operation)
-    if word is Operation.EDGES:
-        raise ValueError("edges have no areas: the operation is one of union, intersection, difference and symdifference")
-    plan = Plan(side, segments, grid, origin)
+    call, plan = CALLS[_only_areas(operation, "edges have no areas")], Plan(side, segments, grid, origin, reading)
     if grid is None and origin is None and _is_text(a) and _is_text(b):
-        return _measuring.of_texts(CALLS[word], a, b, plan)
-    return _measuring.measured(CALLS[word], a, b, plan)
+        return _measuring.of_texts(call, a, b, plan)
+    return _measuring.measured(call, a, b, plan)
 
 
-def covered_text(
-    operation: Operation,
-    a: Text,
-    b: Union[str, bytes],
-    side: Optional[int] = None,
-    segments: Optional[int] = None,
-) -> Text:
-    """What an operation answers on two texts with whole coordinates that are read as covered: a point lies in a layer where one of its
-    geometries at least covers it, so that those that overlap don't cancel each other.
+def covered_text(operation: Operation, a: Text, b: AnyText, side: Optional[int] = None, segments: Optional[int] = None) -> Text:
+    """What `overlay` answers on two layers that are texts with whole coordinates, read as covered, and never WKB.
 
     >>> squares = "POLYGON ((0 0, 4 0, 4 4, 0 4, 0 0)) POLYGON ((2 0, 6 0, 6 4, 2 4, 2 0))"
     >>> covered_text(Operation.UNION, squares, "")
     'MULTIPOLYGON (((0 0, 2 0, 4 0, 6 0, 6 4, 4 4, 2 4, 0 4, 0 0)))\\n'
     """
-    if Operation(operation) is Operation.EDGES:
-        raise ValueError("edges is no operation on what layers cover")
-    text = _calls.text_of(CALLS[Operation(operation)], _calls.bytes_of(a), _calls.bytes_of(b), side, segments, covered=True)
-    return text.decode("ascii") if isinstance(a, str) else text
+    text: Text = _of_texts(_only_areas(operation, "edges have no reading"), a, b, Plan(side, segments))
+    return text
 
 
-def faces_text(a: Text, *more: Union[str, bytes], side: Optional[int] = None, segments: Optional[int] = None) -> Text:
+def faces_text(a: Text, *more: AnyText, side: Optional[int] = None, segments: Optional[int] = None) -> Text:
     """Which features cover what, as the program writes it: a line for each set of features that covers some points together, with
     twice the area, each layer's features, and the points, with tabs between. The layers are texts with whole coordinates.
 
@@ -531,37 +296,7 @@ def faces_text(a: Text, *more: Union[str, bytes], side: Optional[int] = None, se
     return text.decode("ascii") if isinstance(a, str) else text
 
 
-@overload
-def faces(
-    a: str,
-    *more: str,
-    side: Optional[int] = None,
-    segments: Optional[int] = None,
-) -> List[Row]: ...
-
-
-@overload
-def faces(
-    a: Layer,
-    *more: Layer,
-    side: Optional[int] = None,
-    segments: Optional[int] = None,
-    grid: Unit,
-    origin: Optional[Origin] = None,
-) -> List[Face]: ...
-
-
-@overload
-def faces(
-    a: Layer,
-    *more: Layer,
-    side: Optional[int] = None,
-    segments: Optional[int] = None,
-    grid: Optional[Unit] = None,
-    origin: Optional[Origin] = None,
-) -> List[Any]: ...
-
-
+@on_faces
 def faces(
     a: Any,
     *more: Any,
@@ -597,28 +332,7 @@ def faces(
     return [Face(frame.area(line.twice), line.ids, _kinds.answer_of(answer, line.polygons, frame)) for line in lines]
 
 
-@overload
-def pairs(
-    operation: Union[Operation, str],
-    a: Union[bytes, Sequence[bytes]],
-    b: Layer,
-    *,
-    grid: Optional[Unit] = None,
-    origin: Optional[Origin] = None,
-) -> List[bytes]: ...
-
-
-@overload
-def pairs(
-    operation: Union[Operation, str],
-    a: Layer,
-    b: Layer,
-    *,
-    grid: Optional[Unit] = None,
-    origin: Optional[Origin] = None,
-) -> Any: ...
-
-
+@on_pairs
 def pairs(
     operation: Union[Operation, str],
     a: Any,
@@ -641,10 +355,7 @@ def pairs(
     on one grid, and each is rounded alone: its answer is that of `intersection` on the two. So answers that share a border needn't have
     the same points there, as those of `overlay` have. Layers are of WKB, of Shapely's geometries or of arrays, and not of texts.
     """
-    word = Operation(operation)
-    if word is Operation.EDGES:
-        raise ValueError("pairs have no edges: the operation is one of union, intersection, difference and symdifference")
-    return _pairs.pairs(CALLS[word], a, b, Plan(grid=grid, origin=origin))
+    return _pairs.pairs(CALLS[_only_areas(operation, "pairs have no edges")], a, b, Plan(grid=grid, origin=origin))
 
 
 def dissolve(

@@ -23,6 +23,7 @@ from ._kinds import Answerer, Given, answer_of, arrays_answer, given, told_at
 from ._library import Measures
 from ._rows import Line, lines_of
 from ._shapes import Polygons, Shapes
+from ._reading import COVERED, is_covered
 from ._texts import Text
 from ._uniting import united
 
@@ -41,12 +42,13 @@ CHOICES: Dict[int, Callable[[bool, bool], bool]] = {
 
 
 class Plan(NamedTuple):
-    """What is said of a run: the side of a tile, the most segments, the grid's unit and its origin, or nothing."""
+    """What is said of a run: the side of a tile, the most segments, the grid's unit and its origin, or nothing; and how layers are read."""
 
     side: Optional[int] = None
     segments: Optional[int] = None
     grid: Optional[Unit] = None
     origin: Optional[Origin] = None
+    reading: str = COVERED
 
     @property
     def limit(self) -> int:
@@ -103,9 +105,9 @@ def answerer_of(layers: Sequence[Given]) -> Answerer:
     return next((layer.answer for layer in layers if layer.answer), arrays_answer)
 
 
-def simple(layer: Given) -> bool:
-    """Whether a layer may be read by parity: where it is said so, or has one feature."""
-    return not layer.covered or (isinstance(layer.held, Shapes) and len(layer.held.features) < 2)
+def cancel(layers: Sequence[Given], plan: Plan) -> bool:
+    """Whether layers may be read by parity: where it is said so, or each has one feature."""
+    return not is_covered(plan.reading) or not any(layer.held.has_several() for layer in layers)
 
 
 def operation(call: int, a: Any, b: Any, plan: Plan) -> Any:
@@ -116,17 +118,16 @@ def operation(call: int, a: Any, b: Any, plan: Plan) -> Any:
 
 
 def answered(call: int, layers: Sequence[Given], frame: Frame, plan: Plan) -> Polygons:
-    """The polygons that an operation answers on layers, each as it is read."""
-    if all(map(simple, layers)):
+    """The polygons that an operation answers on layers, as they are read."""
+    if cancel(layers, plan):
         return by_parity(call, layers, frame, plan)
-    if all(layer.covered for layer in layers):
-        texts = texts_of(layers, frame)
-        if max(map(len, texts)) <= longest_of(plan.limit):
-            return by_texts(call, layers, texts, plan, covered=True)
+    texts = texts_of(layers, frame)
+    if max(map(len, texts)) <= longest_of(plan.limit):
+        return by_texts(call, layers, texts, plan, covered=True)
     rows = overlapping(layers, frame, plan)
     if rows is None:
         return by_parity(call, layers, frame, plan)
-    return united(row.polygons for row in chosen_of(call, layers, rows))
+    return united(row.polygons for row in chosen_of(call, rows))
 
 
 def by_parity(call: int, layers: Sequence[Given], frame: Frame, plan: Plan, measures: Optional[Measures] = None) -> Polygons:
@@ -151,22 +152,26 @@ def by_texts(
 
 
 def overlapping(layers: Sequence[Given], frame: Frame, plan: Plan) -> Optional[List[Line]]:
-    """The faces of layers of which one is read as covered; nothing where no features of that overlap, so that parity tells the same."""
+    """The faces of layers; nothing where no features of a layer overlap, so that parity tells the same."""
     rows = faces_on(layers, frame, plan, numbered=False)
-    covered = [layer.covered for layer in layers]
-    return rows if any(len(ids) > 1 for row in rows for ids, read in zip(row.ids, covered) if read) else None
+    return rows if overlap(rows) else None
 
 
-def holders_of(row: Line, layers: Sequence[Given]) -> Tuple[bool, bool]:
-    """Which of two layers have the points of a row, each as it is read."""
-    first, second = (bool(ids) if layer.covered else len(ids) % 2 == 1 for ids, layer in zip(row.ids, layers))
+def overlap(rows: Sequence[Line]) -> bool:
+    """Whether features of a layer overlap, by the faces."""
+    return any(len(ids) > 1 for row in rows for ids in row.ids)
+
+
+def holders_of(row: Line) -> Tuple[bool, bool]:
+    """Which of two layers cover the points of a row."""
+    first, second = map(bool, row.ids)
     return first, second
 
 
-def chosen_of(call: int, layers: Sequence[Given], rows: Sequence[Line]) -> List[Line]:
+def chosen_of(call: int, rows: Sequence[Line]) -> List[Line]:
     """The rows that an operation has."""
     choice = CHOICES[call]
-    return [row for row in rows if choice(*holders_of(row, layers))]
+    return [row for row in rows if choice(*holders_of(row))]
 
 
 def faces_on(layers: Sequence[Given], frame: Frame, plan: Plan, numbered: bool = True) -> List[Line]:

@@ -63,7 +63,7 @@ def series_of(made: Sequence[bytes], like: Any, index: Any = None) -> Any:
 
 def features_of(df: Any, name: str) -> Given:
     """A frame's geometries as a layer."""
-    return Given(shapes_of(df.geometry.to_wkb().tolist(), name), True, wkb_answer, systems_of(df))
+    return Given(shapes_of(df.geometry.to_wkb().tolist(), name), wkb_answer, systems_of(df))
 
 
 def faces_on(frames: Sequence[Tuple[Any, str]], grid: Optional[Unit], origin: Optional[Origin]) -> Tuple[List[Line], Frame]:

@@ -86,11 +86,10 @@ def answer_of(answer: Answerer, polygons: Polygons, frame: Frame) -> Any:
 
 
 class Given(NamedTuple):
-    """A layer that was given: what it holds, whether it covers what any of its features covers (else it is read by parity), what makes
-    an answer of its kind, which a list without geometries doesn't tell, and its reference system: of a frame or a series one, or None."""
+    """A layer that was given: what it holds, what makes an answer of its kind, which a list without geometries doesn't tell, and its
+    reference system: of a frame or a series one, or None."""
 
     held: Union[Shapes, Text]
-    covered: bool
     answer: Optional[Answerer]
     systems: Tuple[Any, ...] = ()
 
@@ -154,15 +153,15 @@ def given(layer: Any, name: str) -> Given:
     """A layer as it was given."""
     answer = kind_of(layer)
     if answer in (text_answer, bytes_answer):
-        return Given(Text(bytes_of(layer), name), False, answer)
+        return Given(Text(bytes_of(layer), name), answer)
     if answer is not None:
-        return Given(shapes_of([layer], name), True, answer)
+        return Given(shapes_of([layer], name), answer)
     features = list_of(layer, name)
     answer = kind_of(next((feature for feature in features if feature is not None), None))
     if answer in (text_answer, bytes_answer):
-        return Given(joined_texts(features, name), True, answer)
+        return Given(joined_texts(features, name), answer)
     systems = systems_of(layer)
-    return Given(shapes_of(features, name), True, answer or (shapely_answer if systems else None), systems)
+    return Given(shapes_of(features, name), answer or (shapely_answer if systems else None), systems)
 
 
 def systems_of(layer: Any) -> Tuple[Any, ...]:

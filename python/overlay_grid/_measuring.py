@@ -3,13 +3,16 @@
 from __future__ import annotations
 
 from dataclasses import dataclass
-from typing import Any, Callable, Generic, List, NamedTuple, Sequence, TypeVar, Union
+from typing import Any, Callable, Generic, NamedTuple, Optional, Sequence, TypeVar, Union
 
-from ._asking import Plan, answerer_of, by_parity, chosen_of, frame_of, holders_of, layers_of, overlapping, simple
-from ._calls import bytes_of, text_of
-from ._kinds import Given, answer_of
+from ._asking import Plan, answerer_of, by_parity, cancel, chosen_of, frame_of, layers_of, overlap, overlapping
+from ._calls import bytes_of, faces_of, text_of
+from ._drawing import html_of, named, svg_of
+from ._kinds import answer_of
 from ._library import Measures
-from ._rows import Line
+from ._reading import is_covered
+from ._rows import Line, lines_of
+from ._texts import has_several
 from ._uniting import united
 
 Result = TypeVar("Result", covariant=True)
@@ -28,13 +31,19 @@ class LayerMeasures(NamedTuple):
 @dataclass(frozen=True)
 class Measured(Generic[Result]):
     """The result of an operation, what became of each layer, and the result's area: in square units of the coordinates, and twice, in
-    squares of the grid, exactly."""
+    squares of the grid, exactly. Notebooks draw it."""
 
     result: Result
     a: LayerMeasures
     b: LayerMeasures
     area: float
     twice_area: int
+
+    def _repr_svg_(self) -> Optional[str]:
+        return svg_of(self.result)
+
+    def _repr_html_(self) -> str:
+        return html_of(self.result, f"area {self.area}", *named([f"area {layer.area}" for layer in (self.a, self.b)]))
 
 
 def told(result: Any, measures: Measures, area: Callable[[int], float]) -> Measured[Any]:
@@ -45,8 +54,13 @@ def told(result: Any, measures: Measures, area: Callable[[int], float]) -> Measu
 
 def of_texts(call: int, a: Union[str, bytes], b: Union[str, bytes], plan: Plan) -> Measured[Any]:
     """What an operation answers on two texts with whole coordinates, whose unit is the grid's."""
-    measures = Measures()
-    text = text_of(call, bytes_of(a), bytes_of(b), plan.side, plan.segments, measures=measures)
+    measures, texts = Measures(), [bytes_of(a), bytes_of(b)]
+    text = text_of(call, texts[0], texts[1], plan.side, plan.segments, measures=measures)
+    if is_covered(plan.reading) and any(map(has_several, texts)):
+        rows = lines_of(faces_of(texts, plan.side, plan.segments))
+        if overlap(rows):
+            text = text_of(call, texts[0], texts[1], plan.side, plan.segments, covered=True)
+            put_areas(measures, rows, chosen_of(call, rows))
     return told(text.decode("ascii") if isinstance(a, str) else text, measures, lambda twice: twice / 2)
 
 
@@ -56,17 +70,16 @@ def measured(call: int, a: Any, b: Any, plan: Plan) -> Measured[Any]:
     frame = frame_of(layers, plan)
     measures = Measures()
     polygons = by_parity(call, layers, frame, plan, measures)
-    rows = None if all(map(simple, layers)) else overlapping(layers, frame, plan)
+    rows = None if cancel(layers, plan) else overlapping(layers, frame, plan)
     if rows is not None:
-        chosen = chosen_of(call, layers, rows)
+        chosen = chosen_of(call, rows)
         polygons = united(row.polygons for row in chosen)
-        put_areas(measures, layers, rows, chosen)
+        put_areas(measures, rows, chosen)
     return told(answer_of(answerer_of(layers), polygons, frame), measures, frame.area)
 
 
-def put_areas(measures: Measures, layers: Sequence[Given], rows: Sequence[Line], chosen: List[Line]) -> None:
-    """Puts the areas of layers whose features overlap, by their rows; the routes are those of layers that are read by parity."""
-    holders = [holders_of(row, layers) for row in rows]
+def put_areas(measures: Measures, rows: Sequence[Line], chosen: Sequence[Line]) -> None:
+    """Puts the areas that layers cover whose features overlap, by their rows; the routes are those of layers that are read by parity."""
     for k, layer in enumerate((measures.a, measures.b)):
-        layer.twice_area = sum(row.twice for row, held in zip(rows, holders) if held[k])
+        layer.twice_area = sum(row.twice for row in rows if row.ids[k])
     measures.twice_area = sum(row.twice for row in chosen)

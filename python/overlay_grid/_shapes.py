@@ -99,6 +99,10 @@ class Shapes(NamedTuple):
     features: List[int]
     layer: str
 
+    def has_several(self) -> bool:
+        """Whether the layer has several features."""
+        return len(self.features) > 1
+
     def place(self, point: int) -> Tuple[int, int]:
         """The feature of a point, and which of its polygons it belongs to, both from 1."""
         rings, polygons = iter(self.rings), iter(self.polygons)

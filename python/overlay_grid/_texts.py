@@ -18,6 +18,15 @@ NUMBER = re.compile(rb"(?<![^\s(),])([-+]?(?:\d+(?:\.\d*)?|\.\d+)(?:[eE][-+]?\d+
 WHOLE = re.compile(r"(-?\d+)")
 
 
+def has_several(text: bytes) -> bool:
+    """Whether a text may have several geometries: each begins by a word in which `polygon` stands once.
+
+    >>> has_several(b"MultiPolygon EMPTY"), has_several(b"polygon empty POLYGON EMPTY")
+    (False, True)
+    """
+    return text.lower().count(b"polygon") > 1
+
+
 class Text:
     """A layer's text, and its numbers: x and y by turns, where it is a text of polygons at all. Of a list of texts it tells where each
     of them begins; each has a polygon or a multipolygon, and they stand one behind another on lines of their own."""
@@ -25,9 +34,14 @@ class Text:
     def __init__(self, text: bytes, layer: str, starts: Sequence[int] = ()) -> None:
         self.layer = layer
         self.starts = starts
+        self.several = has_several(text)
         self.pieces: List[bytes] = NUMBER.split(text)
         self.values = array("d", map(float, self.pieces[1::2]))
         self.made = self.pieces
+
+    def has_several(self) -> bool:
+        """Whether the layer may have several features."""
+        return self.several
 
     def box(self) -> Optional[Box]:
         """The box of all points; a number that floating-point numbers have no room for is refused."""

@@ -12,7 +12,7 @@ WHOLE = "POLYGON ((-268435456 -268435456, 268435456 -268435456, 268435456 268435
 
 
 def one_of(layer):
-    """All polygons of a layer's text as one geometry, which is read by parity as the text is."""
+    """All polygons of a layer's text as one geometry, which is read as the text by parity."""
     polygons = [line[len("POLYGON ") :] for line in layer.splitlines()]
     return f"MULTIPOLYGON ({', '.join(polygons)})" if polygons else "MULTIPOLYGON EMPTY"
 
@@ -21,7 +21,7 @@ def one_of(layer):
 @pytest.mark.parametrize("seed", range(40))
 def test_pairs(seed, word):
     a, b = pairs.pair(seed)
-    want = asked(word, a, b)
+    want = asked(word, a, b, reading="parity")
     assert asked(word, wkb_of(one_of(a)), wkb_of(one_of(b)), grid=1) == wkb_of(want)
     assert asked(word, wkb_of(one_of(a)), wkb_of(one_of(b)), grid=1, origin=(5, -3), side=1000, segments=500) == wkb_of(want)
 
@@ -32,7 +32,7 @@ def test_arrays(seed):
     a, b = pairs.pair(seed)
     word = list(WORKED)[seed % 4]
     layers = [tuple(ring for polygon in rings_of(numpy, one_of(layer)) for ring in polygon) for layer in (a, b)]
-    found, want = asked(word, *layers, grid=1), rings_of(numpy, asked(word, a, b))
+    found, want = asked(word, *layers, grid=1), rings_of(numpy, asked(word, a, b, reading="parity"))
     assert [[ring.tolist() for ring in polygon] for polygon in found] == [[ring.tolist() for ring in polygon] for polygon in want]
 
 
@@ -43,7 +43,7 @@ def test_with_numpy_and_without(many, monkeypatch):
     monkeypatch.setattr("overlay_grid._optional.IMPORTED", 1)
     for seed in range(10):
         a, b = pairs.pair(seed)
-        assert overlay_grid.union(wkb_of(one_of(a)), wkb_of(one_of(b)), grid=1) == wkb_of(overlay_grid.union(a, b))
+        assert overlay_grid.union(wkb_of(one_of(a)), wkb_of(one_of(b)), grid=1) == wkb_of(overlay_grid.union(a, b, reading="parity"))
 
 
 def bars(count, turned):

@@ -14,7 +14,7 @@ import overlay_grid
 import pairs
 import pytest
 from overlay_grid import GeometryError, Operation, Refusal, Refused, _asking, _grid, _kinds, _shapes, _uniting
-from test_overlay_grid import PROGRAM
+from test_overlay_grid import printed
 
 FINEST_IS = "and the finest grid with room for all layers is"
 A = "POLYGON ((0 0, 0.4 0, 0.4 0.4, 0 0.4, 0 0))"
@@ -155,15 +155,22 @@ def test_wkb_of_nothing():
 
 
 def test_lists_cover():
-    """Features of a list don't cancel one another, and a text is read by parity."""
+    """Features of a list don't cancel one another, nor do those of a text, where parity isn't said."""
     squares = [wkb_of(multi(A)), wkb_of(multi(B))]
     assert overlay_grid.union(squares, [], grid=0.1) == wkb_of(WORKED["union"])
     assert overlay_grid.union(squares, squares, grid=0.1) == wkb_of(WORKED["union"])
     assert overlay_grid.symdifference(squares, squares, grid=0.1) == wkb_of("MULTIPOLYGON EMPTY")
     assert overlay_grid.difference(squares, [squares[1]], grid=0.1) == wkb_of(WORKED["difference"])
     assert overlay_grid.union([A, B], "", grid=0.1) == overlay_grid.union([A, None, B], [], grid=0.1) == WORKED["union"]
-    assert overlay_grid.union(f"{A} {B}", "", grid=0.1) == WORKED["symdifference"]
-    assert overlay_grid.intersection(squares, f"{A} {B}", grid=0.1) == wkb_of(WORKED["symdifference"])
+    assert overlay_grid.union(f"{A} {B}", "", grid=0.1) == WORKED["union"]
+    assert overlay_grid.intersection(squares, f"{A} {B}", grid=0.1) == wkb_of(WORKED["union"])
+    for layer in (squares, [A, B], f"{A} {B}"):
+        found = overlay_grid.union(layer, [], grid=0.1, reading="parity")
+        assert found == (wkb_of(WORKED["symdifference"]) if layer is squares else WORKED["symdifference"])
+    assert overlay_grid.symdifference(squares, f"{A} {B}", grid=0.1, reading="parity") == wkb_of("MULTIPOLYGON EMPTY")
+    # where sides of what cancels cross it, the other square has vertices
+    crossed = "MULTIPOLYGON (((0.2 0.2, 0.4 0.2, 0.6 0.2, 0.6 0.6, 0.2 0.6, 0.2 0.4, 0.2 0.2)))\n"
+    assert overlay_grid.union(f"{A} {A}", [B], grid=0.1, reading="parity") == crossed
 
 
 def test_lists_of_features_apart():
@@ -346,14 +353,15 @@ def test_limits_of_segments_of_numpy(kind, number):
 
 @pytest.mark.parametrize("seed", range(80))
 def test_lists_are_read_as_covered(seed, tmp_path):
-    """The answer on lists of features has the bytes of the program's answer with --covered, which rounds once."""
+    """The answer on features has the bytes of the program's answer with --covered, which rounds once, in a list as in one text."""
     layers, word = pairs.pair(seed), list(WORKED)[seed % 4]
     names = [str(tmp_path / name) for name in "ab"]
     for name, layer in zip(names, layers):
         with open(name, "w") as file:
             file.write(layer)
-    want = subprocess.run([PROGRAM, word, *names, "--covered"], capture_output=True, text=True, check=True).stdout
+    want = printed(word, *names, reading="covered").decode()
     features = [layer.splitlines() for layer in layers]
+    assert asked(word, *layers) == asked(word, *layers, grid=1) == want
     if any(features):
         assert asked(word, *features, grid=1) == want
         assert asked(word, *([wkb_of(multi(feature)) for feature in layer] for layer in features), grid=1) == wkb_of(want)
@@ -381,17 +389,19 @@ def test_a_list_whose_features_overlap_much():
 
 @pytest.mark.parametrize("seed", range(60))
 def test_united_rows(seed):
-    """Rows of faces, united, are what an operation answers on layers whose features don't overlap; and all rows but those of an even
-    number of features are what it answers by parity."""
+    """Rows of faces, united, are what an operation answers; and all rows but those of an even number of features are what it answers by
+    parity."""
     a, b = pairs.pair(seed)
     rows = overlay_grid.faces(a, b)
 
     def united(chosen):
         return _shapes.text_of(_uniting.united(row.wkt for row in chosen))
 
-    assert united(row for row in rows if len(row.ids[0]) % 2 or len(row.ids[1]) % 2) == overlay_grid.union(a, b)
-    assert united(row for row in rows if len(row.ids[0]) % 2 and len(row.ids[1]) % 2) == overlay_grid.intersection(a, b)
-    assert united(row for row in rows if len(row.ids[0]) % 2 > len(row.ids[1]) % 2) == overlay_grid.difference(a, b)
+    assert united(rows) == overlay_grid.union(a, b)
+    assert united(row for row in rows if row.ids[0] and not row.ids[1]) == overlay_grid.difference(a, b)
+    assert united(row for row in rows if len(row.ids[0]) % 2 or len(row.ids[1]) % 2) == overlay_grid.union(a, b, reading="parity")
+    assert united(row for row in rows if len(row.ids[0]) % 2 and len(row.ids[1]) % 2) == overlay_grid.intersection(a, b, reading="parity")
+    assert united(row for row in rows if len(row.ids[0]) % 2 > len(row.ids[1]) % 2) == overlay_grid.difference(a, b, reading="parity")
 
 
 def test_rows_with_many_petals_at_one_vertex():

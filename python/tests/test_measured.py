@@ -3,6 +3,7 @@
 import pickle
 import random
 from dataclasses import FrozenInstanceError
+from functools import reduce
 
 import overlay_grid
 import pairs
@@ -34,33 +35,39 @@ def test_squares_that_overlap(word):
     assert overlay_grid.measured(Operation(word), SQUARE.encode(), OTHER).result == WORKED[word].encode()
 
 
+# Layers, the area that they cover, that by parity, and steps.
 ALONE = [
-    ("", 0, 0),
-    ("POLYGON EMPTY", 0, 0),
-    (SQUARE, 16, 4),
-    ("POLYGON ((0 0, 0 0, 1 0, 0 1, 0 0))", 0.5, 3),
+    ("", 0, 0, 0),
+    ("POLYGON EMPTY", 0, 0, 0),
+    (SQUARE, 16, 16, 4),
+    ("POLYGON ((0 0, 0 0, 1 0, 0 1, 0 0))", 0.5, 0.5, 3),
     # both diagonals meet on a grid point, and then halfway between four, which goes to the upper right one
-    (BOW_TIE, 8, 6),
-    ("POLYGON ((0 0, 3 3, 3 0, 0 3, 0 0))", 4.5, 6),
-    # a hole, and the same as two rings of which the inner one is no hole
-    ("POLYGON ((0 0, 9 0, 9 9, 0 9, 0 0), (3 3, 6 3, 6 6, 3 6, 3 3))", 72, 8),
-    ("POLYGON ((0 0, 9 0, 9 9, 0 9, 0 0)) POLYGON ((3 3, 6 3, 6 6, 3 6, 3 3))", 72, 8),
-    # the overlap of 8 cancels, and two sides of each have a corner of the other on them
-    (OVERLAPPING, 16, 12),
-    (f"{SQUARE} {SQUARE}", 0, 8),
+    (BOW_TIE, 8, 8, 6),
+    ("POLYGON ((0 0, 3 3, 3 0, 0 3, 0 0))", 4.5, 4.5, 6),
+    # a hole, and the same as two rings of which the inner one is a hole by parity alone
+    ("POLYGON ((0 0, 9 0, 9 9, 0 9, 0 0), (3 3, 6 3, 6 6, 3 6, 3 3))", 72, 72, 8),
+    ("POLYGON ((0 0, 9 0, 9 9, 0 9, 0 0)) POLYGON ((3 3, 6 3, 6 6, 3 6, 3 3))", 81, 72, 8),
+    # the overlap of 8 counts once or cancels, and two sides of each have a corner of the other on them
+    (OVERLAPPING, 24, 16, 12),
+    (f"{SQUARE} {SQUARE}", 16, 0, 8),
+    (f"{SQUARE} {SQUARE} {SQUARE}", 16, 16, 12),
+    # features beside one another
+    (f"{SQUARE} POLYGON ((4 0, 5 0, 5 4, 4 4, 4 0))", 20, 20, 8),
     # a spike of which nothing is left
-    ("POLYGON ((0 0, 4 0, 9 9, 4 0, 0 0))", 0, 4),
+    ("POLYGON ((0 0, 4 0, 9 9, 4 0, 0 0))", 0, 0, 4),
 ]
 
 
-@pytest.mark.parametrize("layer, area, count", ALONE)
-def test_one_layer(layer, area, count):
+@pytest.mark.parametrize("layer, covered, odd, count", ALONE)
+def test_one_layer(layer, covered, odd, count):
     nothing = LayerMeasures(0.0, 0, 0)
-    held = LayerMeasures(area, count, int(2 * area))
-    told = overlay_grid.measured("union", layer, "")
-    assert (told.a, told.b, told.area, told.twice_area) == (held, nothing, area, 2 * area)
-    told = overlay_grid.measured("difference", "", layer)
-    assert (told.a, told.b, told.area, told.result) == (nothing, held, 0.0, "MULTIPOLYGON EMPTY\n")
+    for plan, area in (({}, covered), ({"reading": "covered"}, covered), ({"reading": "parity"}, odd)):
+        held = LayerMeasures(area, count, int(2 * area))
+        told = overlay_grid.measured("union", layer, "", **plan)
+        assert (told.a, told.b, told.area, told.twice_area) == (held, nothing, area, 2 * area)
+        told = overlay_grid.measured("difference", "", layer, **plan)
+        assert (told.a, told.b, told.area, told.result) == (nothing, held, 0.0, "MULTIPOLYGON EMPTY\n")
+        assert overlay_grid.measured("union", layer, "", grid=1, **plan) == overlay_grid.measured("union", layer, "", **plan)
 
 
 def test_borders_that_the_other_layer_bends():
@@ -77,16 +84,17 @@ def test_whole_grid():
     assert (told.a.twice_area, told.twice_area, told.area) == (2**59, 2**59 - 1, float(2**58))
 
 
+@pytest.mark.parametrize("reading", ["covered", "parity"])
 @pytest.mark.parametrize("seed", range(60))
-def test_pairs(seed):
+def test_pairs(seed, reading):
     """The counts of all edges are steps, and what both layers have, and one of them alone, are the layers."""
     a, b = pairs.pair(seed)
-    told = {word: overlay_grid.measured(word, a, b) for word in WORKED}
-    assert all(held.result == getattr(overlay_grid, word)(a, b) for word, held in told.items())
+    told = {word: overlay_grid.measured(word, a, b, reading=reading) for word in WORKED}
+    assert all(held.result == getattr(overlay_grid, word)(a, b, reading=reading) for word, held in told.items())
     twice = {word: twice_area_of(held.result) for word, held in told.items()}
     assert {word: held.twice_area for word, held in told.items()} == twice
     counts = [[int(line.split()[column]) for line in overlay_grid.edges(a, b).splitlines()] for column in (4, 5)]
-    alone = twice_area_of(overlay_grid.difference(b, a))
+    alone = twice_area_of(overlay_grid.difference(b, a, reading=reading))
     for held in told.values():
         assert steps(held) == (sum(counts[0]), sum(counts[1]))
         assert held.a.twice_area == twice["intersection"] + twice["difference"]
@@ -109,19 +117,23 @@ def test_areas_of_boxes(seed):
     draw = random.Random(seed)
     corners = [[(draw.randint(0, 30), draw.randint(0, 30)) for _ in range(draw.randint(1, 5))] for _ in "ab"]
     boxes = [[shapely.box(x, y, x + draw.randint(1, 12), y + draw.randint(1, 12)) for x, y in layer] for layer in corners]
-    by_parity = [shapely.Polygon(), shapely.Polygon()]
-    for k, layer in enumerate(boxes):
-        for one in layer:
-            by_parity[k] = by_parity[k].symmetric_difference(one)
-    told = overlay_grid.measured("difference", *(" ".join(one.wkt for one in layer).replace(".0", "") for layer in boxes))
-    assert areas(told) == (by_parity[0].difference(by_parity[1]).area, by_parity[0].area, by_parity[1].area)
+    texts = [" ".join(one.wkt for one in layer).replace(".0", "") for layer in boxes]
+    for reading, together in (("covered", "union"), ("parity", "symmetric_difference")):
+        a, b = (reduce(of_two(together), layer) for layer in boxes)
+        told = overlay_grid.measured("difference", *texts, reading=reading)
+        assert areas(told) == (a.difference(b).area, a.area, b.area)
+
+
+def of_two(name):
+    """A method of the first of two geometries."""
+    return lambda one, other: getattr(one, name)(other)
 
 
 @pytest.mark.parametrize("grid, area", [(1, 1.0), ("0.5", 0.25), (0.1, 0.01), (3, 9.0)])
 def test_areas_on_a_grid_are_those_of_the_coordinates(grid, area):
     """The same corners on grids of any unit, as a text and as WKB."""
-    wanted = overlay_grid.measured("symdifference", OVERLAPPING, BOW_TIE)
-    by_text = overlay_grid.measured("symdifference", scaled(OVERLAPPING, grid), scaled(BOW_TIE, grid), grid=grid)
+    wanted = overlay_grid.measured("symdifference", OVERLAPPING, BOW_TIE, reading="parity")
+    by_text = overlay_grid.measured("symdifference", scaled(OVERLAPPING, grid), scaled(BOW_TIE, grid), grid=grid, reading="parity")
     by_columns = overlay_grid.measured("symdifference", wkb_of(scaled(one_of(OVERLAPPING.replace(") P", ")\nP")), grid)), scaled(BOW_TIE, grid), grid=grid)
     for told in (by_text, by_columns):
         assert areas(told) == pytest.approx([area * whole for whole in areas(wanted)], rel=1e-15)
@@ -161,7 +173,8 @@ def test_lists_cover_what_any_of_their_geometries_covers():
             assert steps(told) == steps(overlay_grid.measured(word, OVERLAPPING, OTHER))
     assert [overlay_grid.measured(word, squares, OTHER, grid=1).area for word in WORKED] == [32.0, 8.0, 16.0, 24.0]
     assert areas(overlay_grid.measured("difference", OTHER, squares, grid=1)) == (8.0, 16.0, 24.0)
-    assert areas(overlay_grid.measured("union", f"{SQUARE} {SQUARE}", squares, grid=1)) == (24.0, 0.0, 24.0)
+    assert areas(overlay_grid.measured("union", f"{SQUARE} {SQUARE}", squares, grid=1)) == (24.0, 16.0, 24.0)
+    assert areas(overlay_grid.measured("union", f"{SQUARE} {SQUARE}", squares, grid=1, reading="parity")) == (16.0, 0.0, 16.0)
 
 
 def test_lists_whose_geometries_are_apart():

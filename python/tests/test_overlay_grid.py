@@ -3,9 +3,11 @@
 import _ctypes
 import doctest
 import importlib
+import inspect
 import os
 import pickle
 import pkgutil
+import pydoc
 import shutil
 import subprocess
 import sys
@@ -24,6 +26,9 @@ SQUARE = "POLYGON ((0 0, 4 0, 4 4, 0 4, 0 0))"
 OTHER = "POLYGON ((2 2, 6 2, 6 6, 2 6, 2 2))"
 CALLS = ["union", "intersection", "difference", "symdifference", "edges"]
 
+# The program's option for each reading.
+READINGS = {"covered": ["--covered"], "parity": []}
+
 WORKED = {
     "union": "MULTIPOLYGON (((0 0, 4 0, 4 2, 6 2, 6 6, 2 6, 2 4, 0 4, 0 0)))\n",
     "intersection": "MULTIPOLYGON (((2 2, 4 2, 4 4, 2 4, 2 2)))\n",
@@ -36,8 +41,13 @@ def asked(word, a, b, **plan):
     return getattr(overlay_grid, word)(a, b, **plan)
 
 
-def printed(word, *names):
-    return subprocess.run([PROGRAM, word, *names], capture_output=True, check=True).stdout
+def printed(word, *names, reading="parity"):
+    return subprocess.run([PROGRAM, word, *names, *READINGS[reading]], capture_output=True, check=True).stdout
+
+
+def read_so(word, reading):
+    """What is said of a reading to a call that has one."""
+    return {} if word == "edges" else {"reading": reading}
 
 
 @pytest.mark.parametrize("word", WORKED)
@@ -70,7 +80,7 @@ def test_examples():
     told = [doctest.testmod(part) for part in parts]
     assert not any(one.failed for one in told) and sum(one.attempted for one in told) >= 24
     page = doctest.testfile(os.path.join(os.path.dirname(HERE), "README.md"), module_relative=False)
-    assert page.failed == 0 and page.attempted == 18
+    assert page.failed == 0 and page.attempted == 21
 
 
 def test_no_library(tmp_path):
@@ -145,9 +155,11 @@ def test_limit_of_segments(word, segments):
 
 
 def test_more_segments():
+    """An odd number of squares that are one, for parity."""
     many = (SQUARE + " ") * 262145
-    assert overlay_grid.union(many, "", segments=1048580) == overlay_grid.union(SQUARE, "")
-    assert overlay_grid.union(many, "", grid=1) == overlay_grid.union(SQUARE, "")
+    for reading in READINGS:
+        assert overlay_grid.union(many, "", segments=1048580, reading=reading) == overlay_grid.union(SQUARE, "")
+        assert overlay_grid.union(many, "", grid=1, reading=reading) == overlay_grid.union(SQUARE, "")
 
 
 def test_longer_texts_where_more_segments_are_said():
@@ -187,7 +199,63 @@ def test_types():
 def test_samples(word):
     names = [os.path.join(ROOT, "samples", name) for name in ("parcels.wkt", "zones.wkt")]
     layers = [open(name, "rb").read() for name in names]
-    assert asked(word, *layers) == printed(word, *names)
+    for reading in READINGS if word != "edges" else ["parity"]:
+        assert asked(word, *layers, **read_so(word, reading)) == printed(word, *names, reading=reading)
+
+
+OVERLAPPING = f"{SQUARE} {OTHER}"
+
+
+@pytest.mark.parametrize("word", WORKED)
+def test_readings(word):
+    """Squares in one layer are their union where they are covered, and by parity their symmetric difference."""
+    covers, cancels = WORKED["union"], WORKED["symdifference"]
+    for reading, held in (("covered", covers), ("parity", cancels)):
+        want = asked(word, held, OTHER)
+        assert asked(word, OVERLAPPING, OTHER, reading=reading) == asked(word, OVERLAPPING.encode(), OTHER.encode(), reading=reading).decode() == want
+        assert asked(word, OVERLAPPING, OTHER, grid=1, reading=reading) == asked(word, [SQUARE, OTHER], [OTHER], grid=1, reading=reading) == want
+        assert overlay_grid.overlay(Operation(word), OVERLAPPING, OTHER, reading=reading) == want
+    assert asked(word, OVERLAPPING, OTHER) == overlay_grid.covered_text(Operation(word), OVERLAPPING, OTHER) == asked(word, covers, OTHER)
+
+
+def test_one_geometry_is_read_by_the_even_odd_rule():
+    """In both readings: one that crosses itself, one whose parts overlap, and rings that do."""
+    bow_tie = "POLYGON ((0 0, 4 4, 4 0, 0 4, 0 0))"
+    parts = "MULTIPOLYGON (((0 0, 4 0, 4 4, 0 4, 0 0)), ((2 2, 6 2, 6 6, 2 6, 2 2)))"
+    for reading in READINGS:
+        assert overlay_grid.union(bow_tie, "", reading=reading) == "MULTIPOLYGON (((0 0, 2 2, 0 4, 0 0)), ((2 2, 4 0, 4 4, 2 2)))\n"
+        assert overlay_grid.union(f"{bow_tie} POLYGON EMPTY", "", reading=reading) == overlay_grid.union(bow_tie, "", reading=reading)
+        assert overlay_grid.union(parts, "", reading=reading) == WORKED["symdifference"]
+        assert overlay_grid.union(f"{parts} POLYGON EMPTY", "", reading=reading) == WORKED["symdifference"]
+        assert overlay_grid.union(parts.lower(), "", reading=reading) == WORKED["symdifference"]
+
+
+def test_other_readings():
+    for call in (overlay_grid.union, overlay_grid.intersection, overlay_grid.difference, overlay_grid.symdifference):
+        for layers in ((SQUARE, OTHER), ([SQUARE], [OTHER])):
+            with pytest.raises(ValueError, match="^reading: 'even-odd' is neither 'covered' nor 'parity'$"):
+                call(*layers, reading="even-odd")
+    for call in (overlay_grid.overlay, overlay_grid.measured):
+        with pytest.raises(ValueError, match="^reading: None is neither 'covered' nor 'parity'$"):
+            call(Operation.UNION, SQUARE, OTHER, reading=None)
+    with pytest.raises(ValueError, match="^edges have no reading"):
+        overlay_grid.overlay(Operation.EDGES, SQUARE, OTHER, reading="parity")
+    with pytest.raises(ValueError, match="^edges have no reading"):
+        overlay_grid.covered_text(Operation.EDGES, SQUARE, OTHER)
+    with pytest.raises(TypeError):
+        overlay_grid.edges(SQUARE, OTHER, reading="covered")
+
+
+@pytest.mark.parametrize("word", WORKED)
+def test_operations_are_told(word):
+    """They are functions of the package as any other, with the same words."""
+    call = getattr(overlay_grid, word)
+    assert (call.__name__, call.__qualname__, call.__module__) == (word, word, "overlay_grid")
+    assert call.__doc__.startswith("The points of ") and pickle.loads(pickle.dumps(call)) is call
+    told = inspect.signature(call)
+    assert list(told.parameters) == ["a", "b", "side", "segments", "grid", "origin", "reading"]
+    assert told.parameters["reading"].default == "covered" and str(told.parameters["reading"].kind) == "KEYWORD_ONLY"
+    assert word in pydoc.render_doc(call, renderer=pydoc.plaintext).splitlines()[2]
 
 
 @pytest.mark.parametrize("seed", range(100))
@@ -198,7 +266,8 @@ def test_pairs(seed, tmp_path):
         with open(name, "w") as file:
             file.write(layer)
     word = CALLS[seed % len(CALLS)]
-    assert asked(word, *layers, side=(None, 300, 1000)[seed % 3]).encode() == printed(word, *names)
+    for reading in READINGS if word != "edges" else ["parity"]:
+        assert asked(word, *layers, side=(None, 300, 1000)[seed % 3], **read_so(word, reading)).encode() == printed(word, *names, reading=reading)
 
 
 def test_threads():

@@ -38,6 +38,8 @@ areas: list[int] = [row.twice_area for row in found]
 ids: list[tuple[tuple[int, ...], ...]] = [row.ids for row in found]
 wkt: list[str] = [row.wkt for row in found]
 any_of_them: bytes = overlay(Operation.DIFFERENCE, bytearray(), memoryview(b""))
+by_parity: bytes = union(b"", "", reading="parity")
+covering: str = overlay(Operation.UNION, "", b"", reading="covered")
 on_a_grid: str = union("", "", grid=0.1, origin=("412000", Decimal(0)))
 told_of_texts: Measured[str] = measured("union", "", b"", segments=7)
 told_of_bytes: bytes = measured(Operation.UNION, b"", "", 16).result
@@ -82,6 +84,9 @@ def told(refused: Refused) -> tuple[Refusal, Optional[str], Optional[int], Optio
 
 not_bytes: bytes = union("", "")  # type: ignore[assignment]
 no_operation = overlay("union", "", "")  # type: ignore[call-overload]
+no_reading = union("", "", reading="even-odd")  # type: ignore[call-overload]
+unread: float = measured("union", "", "", reading="parity").area
+edges_unread = edges("", "", reading="parity")  # type: ignore[call-overload]
 no_layer = union("", None)  # type: ignore[call-overload]
 not_a_str: str = faces_text(b"")  # type: ignore[assignment]
 none_of_them = faces()  # type: ignore[call-overload]
