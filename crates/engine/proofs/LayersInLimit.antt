@@ -51,7 +51,7 @@ in_box r p l b = record {
   y_in = record { low = between _ r.lo.y p.y l.a_in.y_in.low b.bottom; high = between p.y r.hi.y _ b.top l.b_in.y_in.high };
 }
 
-segments_in : (bounds : Option Rect) (segments : List Seg) (rings : List (List Pt)) → BoundsHold bounds segments → AreBoundsOf (layer_steps rings) bounds → AreRingsInLimit rings → AllInLimit segments
+pub segments_in : (bounds : Option Rect) (segments : List Seg) (rings : List (List Pt)) → BoundsHold bounds segments → AreBoundsOf (layer_steps rings) bounds → AreRingsInLimit rings → AllInLimit segments
 segments_in None segments rings hold e h = all_in (λ (s : Seg). AreInLimit s.a s.b) segments (λ s i. absurd (hold s (in_contains segments s i)))
 segments_in (Some r) segments rings hold box h = all_in (λ (s : Seg). AreInLimit s.a s.b) segments (λ s i.
     let l = box_in rings r h box in

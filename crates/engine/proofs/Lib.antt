@@ -48,3 +48,4 @@ pub mod BoundedRows
 pub mod FaceColumns
 pub mod OneFaceColumns
 pub mod Measuring
+pub mod AreasAddUp

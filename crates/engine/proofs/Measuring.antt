@@ -40,7 +40,7 @@ use Rattle.engine.proofs.Determined.{one_counted}
 use Rattle.engine.proofs.OneResultText.{polygons_of_one}
 
 -- ---- the edges are the same
-same_edges : (layer : Source) (cs : List Counted) → edges_of (map (only layer) cs) ≡ edges_of cs
+pub same_edges : (layer : Source) (cs : List Counted) → edges_of (map (only layer) cs) ≡ edges_of cs
 same_edges layer [] = refl
 same_edges A (c ∷ cs) = ap (λ (es : List Edge). c.edge ∷ es) (same_edges A cs)
 same_edges B (c ∷ cs) = ap (λ (es : List Edge). c.edge ∷ es) (same_edges B cs)

@@ -1,9 +1,9 @@
 -- Areas of two rounded layers and of the result of an operation on them, and how many steps the layers' routes have (own).
-use Rattle.std.specs.Prelude.{◌≡◌, ℕ, ℤ, List, map, sum_by}
+use Rattle.std.specs.Prelude.{◌≡◌, ◌+ℤ◌, ℕ, ℤ, List, map, sum_by}
 use Rattle.geom.specs.declared.edge.Counted.{Counted}
 use Rattle.geom.specs.declared.directed.DirectedEdge.{DirectedEdge}
 use Rattle.geom.specs.declared.op.Op.{Op}
-use Rattle.geom.specs.declared.op.Op.TheVariants.{Union}
+use Rattle.geom.specs.declared.op.Op.TheVariants.{Difference, Intersection, SymDifference, Union}
 use Rattle.geom.specs.declared.segment.Source.{Source}
 use Rattle.geom.specs.declared.segment.Source.TheVariants.{A, B}
 use Rattle.geom.specs.Directed.{AreResultEdges}
@@ -11,6 +11,7 @@ use Rattle.geom.specs.Parity.{parity}
 use Rattle.geom.specs.Pixel.{Point}
 use Rattle.geom.specs.ResultEdges.{holds_at}
 use Rattle.geom.specs.Rounded.{odd_edges}
+use Rattle.points_law.specs.Law.{AreLayers}
 use Rattle.cover_law.specs.Areas.{area_of, twice_area}
 use Rattle.columns.specs.declared.layout.Columns.{Columns}
 use Rattle.results.specs.declared.text.Report.{Report}
@@ -30,6 +31,12 @@ only B c = record { edge = c.edge; in_a = 0; in_b = c.in_b }
 pub record IsLayerArea (layer : Source) (counted : List Counted) (area : ℤ) : Type 0 where
   pub directed : List DirectedEdge
   pub bound : AreResultEdges Union (map (only layer) counted) directed
+  pub area_is : area ≡ twice_area directed
+
+-- twice the area that the directed edges of an operation's result bound
+pub record IsResultArea (op : Op) (counted : List Counted) (area : ℤ) : Type 0 where
+  pub directed : List DirectedEdge
+  pub bound : AreResultEdges op counted directed
   pub area_is : area ≡ twice_area directed
 
 -- how many steps the routes of a layer's segments have: each is a rounded edge, which counts as often as it occurs
@@ -59,7 +66,7 @@ pub record AreColumnsMeasured {M : Type 0} (limit : ℕ) (op : Op) (plan : Plan)
 
 -- ---- laws
 
--- a layer's area is that of the points where its parity is odd
+-- the points of a layer's union with nothing, along which its area is summed up, are those where its parity is odd
 abbrev pub LayerAreaTells : Type 0
 LayerAreaTells = (layer : Source) (counted : List Counted) (z : Point) → holds_at Union (map (only layer) counted) z ≡ parity (odd_edges layer counted) z
 
@@ -67,3 +74,20 @@ LayerAreaTells = (layer : Source) (counted : List Counted) (z : Point) → holds
 abbrev pub MeasuresAreOne : Type 0 → Type 0 → Type 0
 MeasuresAreOne M N = (limit limit' : ℕ) (op : Op) (a b : List ℕ) (plan other : Plan) (text text' : List ℕ) (report : Report M) (report' : Report N) (measures measures' : Measures)
     → IsMeasuredWithin limit op plan a b text report measures → IsMeasuredWithin limit' op other a b text' report' measures' → measures ≡ measures'
+
+-- what an operation's area and that of the intersection have of the areas of both layers: every point of a layer counts once for it
+abbrev pub AddsUp : Op → ℤ → Measures → Type 0
+AddsUp Union both m = m.twice_area +ℤ both ≡ m.a.twice_area +ℤ m.b.twice_area
+AddsUp Intersection both m = m.twice_area ≡ both
+AddsUp Difference both m = m.twice_area +ℤ both ≡ m.a.twice_area
+AddsUp SymDifference both m = m.twice_area +ℤ (both +ℤ both) ≡ m.a.twice_area +ℤ m.b.twice_area
+
+-- so it is of any two rounded layers
+abbrev pub AreasAddUp : Type 0
+AreasAddUp = (op : Op) (counted : List Counted) → AreLayers counted → (m : Measures) (both : ℤ) → IsResultArea op counted m.twice_area → AreLayersMeasured counted m → IsResultArea Intersection counted both
+    → AddsUp op both m
+
+-- and of the measures of two runs on the same texts, one of them an intersection
+abbrev pub MeasuresAddUp : Type 0 → Type 0 → Type 0
+MeasuresAddUp M N = (limit limit' : ℕ) (op : Op) (a b : List ℕ) (plan other : Plan) (text text' : List ℕ) (report : Report M) (report' : Report N) (measures both : Measures)
+    → IsMeasuredWithin limit op plan a b text report measures → IsMeasuredWithin limit' Intersection other a b text' report' both → AddsUp op both.twice_area measures

@@ -14,7 +14,7 @@ ghost use Rattle.engine.specs.CoveredRuns.{CoveredTextIsOneWithin};
 ghost use Rattle.engine.specs.FaceColumnsLaws.{FaceColumnsAreOne, FaceColumnsRefusalIsOne, FacesAreByColumns, RefusedFaceColumnsAreNotMade, RefusedMayNotRoundColumns};
 ghost use Rattle.engine.specs.Faces.{FacesRefusalIsOne, FacesTextIsOneWithin, RefusedAreNotWritten, RefusedMayNotRound, WrittenFacesTell};
 ghost use Rattle.engine.specs.Counting.{CountsAreExact, CountsAreExactWithin};
-ghost use Rattle.engine.specs.Measures.{LayerAreaTells, MeasuresAreOne};
+ghost use Rattle.engine.specs.Measures.{AreasAddUp, LayerAreaTells, MeasuresAddUp, MeasuresAreOne};
 
 use grid::{DEFAULT_SIDE, GREATEST_SIDE, LEAST_SIDE};
 use layers::MOST_LAYERS;
@@ -71,9 +71,17 @@ pub fn measures_are_one<A: Allocator, B: Allocator>()
     ensures { MeasuresAreOne A B }
 {}
 
-/// The area that is measured of a layer is that of the points where its parity is odd.
+/// A layer is measured as its union with nothing, whose points are those where the layer's parity is odd.
 pub fn measures_tell()
     ensures { LayerAreaTells }
+{}
+
+/// Areas add up as those of sets of points do: that of the union and that of the intersection are together those of both layers.
+/// That of a difference and that of the intersection are together that of the first layer, and that of a symmetric difference and
+/// twice that of the intersection are those of both layers.
+pub fn areas_add_up<A: Allocator, B: Allocator>()
+    ensures areas { AreasAddUp }
+    ensures measures { MeasuresAddUp A B }
 {}
 
 /// A plan and two layers of columns are refused for one reason, or for none where they are answered.

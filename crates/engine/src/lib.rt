@@ -51,12 +51,12 @@ pub use faces_report::{FacesReport, faces_report_text};
 pub use faces_run::{faces, faces_within};
 pub use fitting::{fitting_side, fitting_side_of_columns, fitting_side_over};
 pub use laws::{
-    columns_answer_is_one, columns_refused_for_one_reason, counts_are_exact, covered_text_is_one,
-    edges_text_is_one, face_columns_are_one, face_columns_refused_for_one_reason,
-    faces_are_by_columns, faces_refused_for_one_reason, faces_tell, faces_text_is_one,
-    limits_are_numbers, measures_are_one, measures_tell, one_refusal, pair_is_by_columns,
-    pairs_refused_for_one_reason, result_text_is_one, run_is_by_columns, run_reports_as_edges,
-    tiles_are_one,
+    areas_add_up, columns_answer_is_one, columns_refused_for_one_reason, counts_are_exact,
+    covered_text_is_one, edges_text_is_one, face_columns_are_one,
+    face_columns_refused_for_one_reason, faces_are_by_columns, faces_refused_for_one_reason,
+    faces_tell, faces_text_is_one, limits_are_numbers, measures_are_one, measures_tell,
+    one_refusal, pair_is_by_columns, pairs_refused_for_one_reason, result_text_is_one,
+    run_is_by_columns, run_reports_as_edges, tiles_are_one,
 };
 pub use layers::{
     ColumnsRefused, FacesColumnsRefused, FacesFault, FacesLimits, FacesPart, FacesRefusal,

@@ -13,6 +13,8 @@ mod faces;
 mod large_unions;
 #[cfg(test)]
 mod limits;
+#[cfg(test)]
+mod measured;
 pub mod one_by_one;
 #[cfg(test)]
 mod operations;

@@ -1,0 +1,4 @@
+pub mod Scattered
+pub mod Rounded
+pub mod Labelled
+pub mod Whole
