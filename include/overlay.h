@@ -8,10 +8,15 @@
  * malloc, and has let all of it go when it returns, but for what overlay_text and overlay_arrays give to the caller. All that is
  * passed stays the caller's: no call keeps a pointer.
  *
- * The caller sees to it that
- *   - each pointer is to as many bytes as its length says, of columns to as many numbers, or the length is 0 and the pointer is not null;
- *   - a room overlaps neither a layer nor the answer;
- *   - no call is made from a signal handler, or in the forked child of a process with several threads.
+ * A call reads layers and lists (of cuts, lines, edges and the like). It writes buffers and an answer, and some calls write measures.
+ * Every call rests on these conditions, and none can test them:
+ *   - No pointer is NULL, neither one that is passed nor one in a struct. That holds where the length is 0, too: any other aligned pointer
+ *     will do there, and nothing is read or written by it. (The data() of an empty std::vector may be NULL.)
+ *   - Each pointer is aligned for its type, and is to as many items as its length says.
+ *   - A buffer that is written overlaps no layer, no list and no struct that is passed, no other buffer, and no answer. Neither does an
+ *     answer, nor do measures. They may touch, one ending where another begins. Layers and lists may overlap one another.
+ *   - While a call runs, nothing else writes what it reads, and nothing else reads or writes what it writes.
+ *   - No call is made from a signal handler, or in the forked child of a process with several threads.
  *
  * include/example.c is a whole program. An installed library is linked by `pkg-config --cflags --libs overlay`; in a clone link
  * with crates/overlay_c/out/liboverlay_c.a and the kit's c/liblibc_c.a, which calls malloc.
@@ -49,7 +54,7 @@ enum overlay_status {
     OVERLAY_NO_MEMORY = 1,
     OVERLAY_NO_CALL = 2, /* what to compute is none of the above; faces of more than 64 layers; no such strip, or layer of strips */
     OVERLAY_REFUSED = 3, /* a layer, the tile side, a list of a strip, or the number of features, segments, tiles or ids is refused */
-    OVERLAY_SMALL = 4    /* there is a text, and it doesn't fit into the room */
+    OVERLAY_SMALL = 4    /* there is a text, and it doesn't fit into the buffer */
 };
 
 /* Why an input is refused. */
@@ -80,10 +85,10 @@ enum overlay_part {
     OVERLAY_RUN = 2      /* both together, the side, or memory */
 };
 
-/* Enough room for the words of every answer, in bytes. */
+/* How many bytes are enough for the words of every answer. */
 #define OVERLAY_WORDS 64
 
-/* What a call answers. It has the caller's room, and all fields are written. Fields that don't belong to the status are 0. */
+/* What a call answers. Its memory is the caller's, and all fields are written. Fields that don't belong to the status are 0. */
 struct overlay_answer {
     uint64_t length; /* OVERLAY_ANSWERED, OVERLAY_SMALL: of the text, in bytes */
     uint64_t detail; /* OVERLAY_REFUSED: a byte of the layer, counted from 0, or a number of segments, tiles or ids */
@@ -92,27 +97,27 @@ struct overlay_answer {
     uint32_t part;   /* OVERLAY_REFUSED, OVERLAY_NO_MEMORY: what, an overlay_part */
 };
 
-/* Puts a text at the beginning of a room, and tells its length. Where the status is not OVERLAY_ANSWERED the room is as it was;
+/* Puts a text at the beginning of a buffer, and tells its length. Where the status is not OVERLAY_ANSWERED the buffer is as it was;
  * behind the text it is so always. The texts are those of the program, line feed included, with no 0 at their end.
  *
- *   call                what to compute: an overlay_call
- *   side                the side of a tile, in grid units, 16 to 33554432; it has no influence on the text
- *   a, a_length         the first layer, read alone, and its length in bytes
- *   b, b_length         the second layer, likewise; it may be the same bytes as the first
- *   room, room_length   where the text goes, and how many bytes there may be written
- *   answer              where the answer goes; not null */
+ *   call                    what to compute: an overlay_call
+ *   side                    the side of a tile, in grid units, 16 to 33554432; it has no influence on the text
+ *   a, a_length             the first layer, read alone, and its length in bytes
+ *   b, b_length             the second layer, likewise; it may be the same bytes as the first
+ *   buffer, buffer_length   where the text goes, and how many bytes there may be written
+ *   answer                  where the answer goes */
 void overlay_fill(uint32_t call, uint32_t side, const uint8_t *a, size_t a_length, const uint8_t *b, size_t b_length,
-                  uint8_t *room, size_t room_length, struct overlay_answer *answer);
+                  uint8_t *buffer, size_t buffer_length, struct overlay_answer *answer);
 
 /* The same for layers that together have at most so many segments, from 1 to 4294967295. The number has no influence on the text;
  * ten million segments of parcels take the program some 740 MB of memory. */
 void overlay_fill_within(uint32_t call, uint32_t side, uint32_t segments, const uint8_t *a, size_t a_length, const uint8_t *b,
-                         size_t b_length, uint8_t *room, size_t room_length, struct overlay_answer *answer);
+                         size_t b_length, uint8_t *buffer, size_t buffer_length, struct overlay_answer *answer);
 
 /* The same where features that overlap don't cancel: a point lies in a layer where one of its geometries at least covers it. So the union of
  * a layer and an empty one has all that the layer's geometries cover. OVERLAY_EDGES is OVERLAY_NO_CALL. */
 void overlay_covered_fill(uint32_t call, uint32_t side, uint32_t segments, const uint8_t *a, size_t a_length, const uint8_t *b,
-                          size_t b_length, uint8_t *room, size_t room_length, struct overlay_answer *answer);
+                          size_t b_length, uint8_t *buffer, size_t buffer_length, struct overlay_answer *answer);
 
 /* What became of a layer that was rounded with another one. */
 struct overlay_layer_measures {
@@ -130,19 +135,19 @@ struct overlay_measures {
 /* overlay_fill_within for an operation, which tells areas too; OVERLAY_EDGES is OVERLAY_NO_CALL. A layer whose area by parity isn't the sum of
  * the areas of its polygons has polygons that overlap or cross themselves, or segments that were bent.
  *
- *   measures            where areas and steps go; not null */
+ *   measures            where areas and steps go */
 void overlay_measured_fill(uint32_t call, uint32_t side, uint32_t segments, const uint8_t *a, size_t a_length, const uint8_t *b,
-                           size_t b_length, uint8_t *room, size_t room_length, struct overlay_answer *answer,
+                           size_t b_length, uint8_t *buffer, size_t buffer_length, struct overlay_answer *answer,
                            struct overlay_measures *measures);
 
 /* Tells the length alone (never OVERLAY_SMALL), of the parameters of overlay_fill. The text is made for that and let go, so this takes as
- * long as overlay_fill; to call that first with a room of a guessed size, and again where it was too small, is cheaper. */
+ * long as overlay_fill; to call that first with a buffer of a guessed size, and again where it was too small, is cheaper. */
 void overlay_size(uint32_t call, uint32_t side, const uint8_t *a, size_t a_length, const uint8_t *b, size_t b_length,
                   struct overlay_answer *answer);
 
 /* A layer of faces: its text, and how many bytes that has. */
 struct overlay_layer {
-    const uint8_t *bytes; /* not null */
+    const uint8_t *bytes;
     size_t length;
 };
 
@@ -153,19 +158,19 @@ struct overlay_layer {
 #define OVERLAY_SEGMENTS 1048576u
 #define OVERLAY_IDS 268435456u
 
-/* Puts the text of the faces of layers at the beginning of a room, and tells its length: which features cover which part of the
+/* Puts the text of the faces of layers at the beginning of a buffer, and tells its length: which features cover which part of the
  * plane, a line for each set of features that covers some points together. A line is twice the area of these points, the numbers
  * of the features of each layer, counted from 1 in the layer's text and with commas between, and the points as a MULTIPOLYGON, all
- * with tabs between. The features of one layer may overlap. Room, status and text are as of overlay_fill.
+ * with tabs between. The features of one layer may overlap. Buffer, status and text are as of overlay_fill.
  *
- *   side                the side of a tile, in grid units, 16 to 33554432; it has no influence on the text
- *   segments            the most segments of all layers together; it has no influence on the text
- *   ids                 the most features that all lines may name together, which bounds the text; it has no influence on it
- *   layers, count       the layers, and how many there are: at most OVERLAY_MOST_LAYERS
- *   room, room_length   where the text goes, and how many bytes there may be written
- *   answer              where the answer goes; not null */
+ *   side                    the side of a tile, in grid units, 16 to 33554432; it has no influence on the text
+ *   segments                the most segments of all layers together; it has no influence on the text
+ *   ids                     the most features that all lines may name together, which bounds the text; it has no influence on it
+ *   layers, count           the layers, and how many there are: at most OVERLAY_MOST_LAYERS
+ *   buffer, buffer_length   where the text goes, and how many bytes there may be written
+ *   answer                  where the answer goes */
 void overlay_faces_fill(uint32_t side, uint32_t segments, uint64_t ids, const struct overlay_layer *layers, size_t count,
-                        uint8_t *room, size_t room_length, struct overlay_answer *answer);
+                        uint8_t *buffer, size_t buffer_length, struct overlay_answer *answer);
 
 /* Tells the length alone (never OVERLAY_SMALL), of the same parameters, as overlay_size does. */
 void overlay_faces_size(uint32_t side, uint32_t segments, uint64_t ids, const struct overlay_layer *layers, size_t count,
@@ -177,7 +182,7 @@ uint32_t overlay_faces_side(const struct overlay_layer *layers, size_t count);
 /* A layer as columns, in the layout of GeoArrow's MultiPolygon: features, their polygons, their rings, their points. An offset says where a
  * list begins in the next level; there is one more of them than there are lists, and none falls or passes the end of that level. The lists that
  * the features' offsets don't reach have no other meaning, so that slices of longer columns will do; but each call reads all offsets that it is
- * handed, so that slices of all columns take less time. Rings are closed: their last point is their first. No pointer is null. */
+ * handed, so that slices of all columns take less time. Rings are closed: their last point is their first. */
 struct overlay_columns {
     const int32_t *coordinates; /* x y x y .., in grid units */
     size_t coordinates_length;
@@ -201,16 +206,16 @@ struct overlay_columns_answer {
     uint32_t part;        /* OVERLAY_REFUSED, OVERLAY_NO_MEMORY: what, an overlay_part */
 };
 
-/* Puts the result of an operation on two layers of columns, as columns too, at the beginning of three rooms, and tells their lengths: the
+/* Puts the result of an operation on two layers of columns, as columns too, at the beginning of three buffers, and tells their lengths: the
  * coordinates of closed rings, shells before their holes, where each ring and where each polygon begins. They are the polygons whose line
- * overlay_fill writes. Where one room is too small, or the status is not OVERLAY_ANSWERED, all rooms are as they were; behind the columns
- * they are so always.
+ * overlay_fill writes. Where one buffer is too small, or the status is not OVERLAY_ANSWERED, all buffers are as they were; behind the columns they
+ * are so always.
  *
  *   call                what to compute: an overlay_call, but for OVERLAY_EDGES
  *   side, segments      as of overlay_fill_within
  *   a, b                the layers; they may be the same
- *   coordinates, rings, polygons, and their lengths   where the columns go, and how many numbers there may be written; they don't overlap
- *   answer              where the answer goes; not null */
+ *   coordinates, rings, polygons, and their lengths   where the columns go, and how many numbers there may be written
+ *   answer              where the answer goes */
 void overlay_columns_fill(uint32_t call, uint32_t side, uint32_t segments, const struct overlay_columns *a, const struct overlay_columns *b,
                           int32_t *coordinates, size_t coordinates_length, uint32_t *rings, size_t rings_length, uint32_t *polygons,
                           size_t polygons_length, struct overlay_columns_answer *answer);
@@ -222,9 +227,9 @@ void overlay_measured_columns_fill(uint32_t call, uint32_t side, uint32_t segmen
                                    struct overlay_measures *measures);
 
 /* Puts the results of an operation on each feature of a layer and the feature with the same number of another layer, which has as many, at
- * the beginning of four rooms, as columns with a feature for each pair: features tells where each result begins among the polygons, and where
+ * the beginning of four buffers, as columns with a feature for each pair: features tells where each result begins among the polygons, and where
  * the last one ends. The result of a pair is what overlay_columns_fill answers on these two features alone, and needs no tile side; answer
- * doesn't tell the length of features, which is 1 more than there are pairs. Layers, rooms and status are as of overlay_columns_fill.
+ * doesn't tell the length of features, which is 1 more than there are pairs. Layers, buffers and status are as of overlay_columns_fill.
  *
  *   segments            the most segments of both layers, with all their features */
 void overlay_pairs_fill(uint32_t call, uint32_t segments, const struct overlay_columns *a, const struct overlay_columns *b, int32_t *coordinates,
@@ -234,8 +239,8 @@ void overlay_pairs_fill(uint32_t call, uint32_t segments, const struct overlay_c
 /* Returns the tile side for two layers of columns, as overlay_side does for two texts: 262144 where one is refused. */
 uint32_t overlay_columns_side(const struct overlay_columns *a, const struct overlay_columns *b);
 
-/* Where the faces of layers go as columns, and how many numbers there may be written. No pointer is null, and no room overlaps another one. */
-struct overlay_face_rooms {
+/* Where the faces of layers go as columns, and how many numbers there may be written. */
+struct overlay_face_buffers {
     int32_t *coordinates; /* x y x y .. of closed rings, shells before their holes */
     size_t coordinates_length;
     uint32_t *rings; /* where each ring begins among the points */
@@ -267,17 +272,17 @@ struct overlay_faces_answer {
     uint32_t part;   /* OVERLAY_REFUSED, OVERLAY_NO_MEMORY: what: the number of a layer, from 0 on, or the count of layers for the run */
 };
 
-/* Puts the faces of layers of columns, as columns too, at the beginning of seven rooms, and tells their lengths. Their rows are those whose
+/* Puts the faces of layers of columns, as columns too, at the beginning of seven buffers, and tells their lengths. Their rows are those whose
  * lines overlay_faces_fill writes of the same features, in the same order. A column of offsets has one number more than there are lists. Of
- * the layer with the number n row r has the ids of list n * twice_areas + r. Where one room is too small, or the status is not
- * OVERLAY_ANSWERED, all rooms are as they were; behind the columns they are so always.
+ * the layer with the number n row r has the ids of list n * twice_areas + r. Where one buffer is too small, or the status is not
+ * OVERLAY_ANSWERED, all buffers are as they were; behind the columns they are so always.
  *
  *   side, segments, ids   as of overlay_faces_fill
  *   layers, count         the layers, and how many there are: at most OVERLAY_MOST_LAYERS
- *   rooms                 where the columns go; the pointers and the lengths stay as they are
- *   answer                where the answer goes; not null */
+ *   buffers               where the columns go; the pointers and the lengths stay as they are
+ *   answer                where the answer goes */
 void overlay_faces_columns_fill(uint32_t side, uint32_t segments, uint64_t ids, const struct overlay_columns *layers, size_t count,
-                                struct overlay_face_rooms *rooms, struct overlay_faces_answer *answer);
+                                struct overlay_face_buffers *buffers, struct overlay_faces_answer *answer);
 
 /* Returns the tile side for these layers, as overlay_faces_side does for texts. */
 uint32_t overlay_faces_columns_side(const struct overlay_columns *layers, size_t count);
@@ -347,7 +352,7 @@ struct overlay_directed {
 /* What a call on a strip answers. All fields are written; those that don't belong to the status are 0. Of all faults the first one is told: of the
  * cuts, then of the lists in their order, then of what they say of each other. */
 struct overlay_strip_answer {
-    uint64_t first;  /* OVERLAY_ANSWERED, OVERLAY_SMALL: how many items go into the first room of the call */
+    uint64_t first;  /* OVERLAY_ANSWERED, OVERLAY_SMALL: how many items go into the first buffer of the call */
     uint64_t second; /* the same of the second one, where it has one */
     uint64_t third;  /* the same of the third one */
     uint64_t detail; /* OVERLAY_REFUSED: the number of an item, a point, a ring or an offset, from 0 on */
@@ -359,9 +364,9 @@ struct overlay_strip_answer {
 /* The cuts, as what is refused. */
 #define OVERLAY_CUTS 3
 
-/* Puts the lines of a part of a layer into a room: those that reach the first strip, ascending by their numbers, then those that reach the second
- * one, and so on. Where one room is too small, or the status is not OVERLAY_ANSWERED, both rooms are as they were; behind the items they are so
- * always. That holds of the calls on strips and all their rooms.
+/* Puts the lines of a part of a layer into a buffer: those that reach the first strip, ascending by their numbers, then those that reach the second
+ * one, and so on. Where one buffer is too small, or the status is not OVERLAY_ANSWERED, both buffers are as they were; behind the items they are so
+ * always. That holds of the calls on strips and all their buffers.
  *
  *   cuts, cuts_length       the columns at which strips begin; none is less than the one before it
  *   layer                   0 the first layer, 1 the second one; else OVERLAY_NO_CALL
@@ -369,7 +374,7 @@ struct overlay_strip_answer {
  *   part                    some features of the layer, refused as elsewhere
  *   lines, lines_length     where the lines go
  *   strips, strips_length   where the number goes at which each strip's lines begin, and that at which the last one's end: one more than strips
- *   answer                  where the answer goes; not null. More lines than 4294967295 are OVERLAY_NO_MEMORY */
+ *   answer                  where the answer goes. More lines than 4294967295 are OVERLAY_NO_MEMORY */
 void overlay_strip_scatter(const int32_t *cuts, size_t cuts_length, uint32_t layer, uint32_t first, const struct overlay_columns *part,
                            struct overlay_line *lines, size_t lines_length, uint32_t *strips, size_t strips_length,
                            struct overlay_strip_answer *answer);
@@ -402,36 +407,36 @@ void overlay_strip_bridge(const struct overlay_open *left, size_t left_length, c
  *
  *   inner, inner_length     what overlay_strip_round told of the strip
  *   across, across_length   what overlay_strip_bridge told of it
- *   room, room_length       where the edges go
+ *   buffer, buffer_length   where the edges go
  *
  * OVERLAY_CONTRADICTION: an edge of across is one of inner (part 1). */
 void overlay_strip_edges(const struct overlay_counted *inner, size_t inner_length, const struct overlay_counted *across, size_t across_length,
-                         struct overlay_counted *room, size_t room_length, struct overlay_strip_answer *answer);
+                         struct overlay_counted *buffer, size_t buffer_length, struct overlay_strip_answer *answer);
 
-/* Labels a strip: puts the directed edges of an operation's result along its own edges into a room, ascending by start, then by end.
+/* Labels a strip: puts the directed edges of an operation's result along its own edges into a buffer, ascending by start, then by end.
  *
  *   call                        what to compute: an overlay_call, but for OVERLAY_EDGES
  *   crossing, crossing_length   what overlay_strip_going_on told of the strip on the left; nothing for the first strip
  *   own, own_length             what overlay_strip_edges told of the strip
- *   room, room_length           where the directed edges go
+ *   buffer, buffer_length       where the directed edges go
  *
  * OVERLAY_CONTRADICTION: an edge of crossing doesn't begin on the left of all edges of own (part 0). Lists that cross one another aren't refused,
  * and are answered by directed edges that say nothing. */
 void overlay_strip_labels(uint32_t call, const struct overlay_counted *crossing, size_t crossing_length, const struct overlay_counted *own,
-                          size_t own_length, struct overlay_directed *room, size_t room_length, struct overlay_strip_answer *answer);
+                          size_t own_length, struct overlay_directed *buffer, size_t buffer_length, struct overlay_strip_answer *answer);
 
-/* Puts the edges that come into the next strip into a room, ascending: of those that come into a strip, and of its own, those that end behind it.
+/* Puts the edges that come into the next strip into a buffer, ascending: of those that come into a strip, and of its own, those that end behind it.
  *
  *   strip                       the number of the strip, from 0 on; OVERLAY_NO_CALL where it is greater than that of the cuts
  *   crossing, crossing_length   as of overlay_strip_labels
  *   own, own_length             likewise
- *   room, room_length           where the edges go */
+ *   buffer, buffer_length       where the edges go */
 void overlay_strip_going_on(const int32_t *cuts, size_t cuts_length, size_t strip, const struct overlay_counted *crossing, size_t crossing_length,
-                            const struct overlay_counted *own, size_t own_length, struct overlay_counted *room, size_t room_length,
+                            const struct overlay_counted *own, size_t own_length, struct overlay_counted *buffer, size_t buffer_length,
                             struct overlay_strip_answer *answer);
 
 /* Parts the directed edges that a range of strips knows, which are all those of a result that have a column of it: puts the closed ones into one
- * room, and into another one those open ones that begin in the range, both ascending. An edge is open in a range if it goes over a border of it, or
+ * buffer, and into another one those open ones that begin in the range, both ascending. An edge is open in a range if it goes over a border of it, or
  * is tied to one that does, by edges that the range knows: edges that meet at a point are tied, and those of a hole to the edge below its leftmost
  * point, so that the edges of one polygon are. Closed edges have polygons of their own, by overlay_polygons, and these are polygons of the result.
  * The open ones of two ranges that touch, with those edges that come into the first one from the left, are what the range of both knows then; in the
@@ -449,13 +454,13 @@ void overlay_strip_closed(const int32_t *cuts, size_t cuts_length, size_t first,
                           size_t known_length, struct overlay_directed *closed, size_t closed_length, struct overlay_directed *waiting,
                           size_t waiting_length, struct overlay_strip_answer *answer);
 
-/* Puts the polygons of directed edges, as columns, at the beginning of three rooms, and tells their lengths, as overlay_columns_fill does. The edges
- * of all strips, brought in order, get the polygons of the result that overlay_columns_fill tells. Edges from anywhere else get rings that
- * have each edge once, visit no point twice and begin at their least one; they are polygons where the edges meet only at ends.
+/* Puts the polygons of directed edges, as columns, at the beginning of three buffers, and tells their lengths, as overlay_columns_fill does. The
+ * edges of all strips, brought in order, get the polygons of the result that overlay_columns_fill tells. Edges from anywhere else get rings that have
+ * each edge once, visit no point twice and begin at their least one; they are polygons where the edges meet only at ends.
  *
  *   directed, directed_length   the edges, ascending by ax, ay, bx and by
- *   coordinates, rings, polygons, and their lengths   where the columns go, and how many numbers there may be written; they don't overlap
- *   answer                      where the answer goes; not null
+ *   coordinates, rings, polygons, and their lengths   where the columns go, and how many numbers there may be written
+ *   answer                      where the answer goes
  *
  * OVERLAY_BAD_ITEM: an edge is out of range or a point alone, or isn't behind the one before it. OVERLAY_CONTRADICTION: the edges don't close where
  * the edge starts or ends: of the edges at a point two run in one direction or one runs both ways, or behind one that arrives, clockwise, none leaves.
@@ -463,14 +468,14 @@ void overlay_strip_closed(const int32_t *cuts, size_t cuts_length, size_t first,
 void overlay_polygons(const struct overlay_directed *directed, size_t directed_length, int32_t *coordinates, size_t coordinates_length,
                       uint32_t *rings, size_t rings_length, uint32_t *polygons, size_t polygons_length, struct overlay_columns_answer *answer);
 
-/* Puts polygons in order, as columns, at the beginning of three rooms, and tells their lengths, as overlay_polygons does. Where the shells of two first
- * differ, the one with the lesser point (by x, then by y) goes first; a shell goes before those that begin with all of its points. What several calls
- * of overlay_polygons told is handed in as one list: the columns of one behind those of another, with offsets that go on. Offsets may begin anywhere,
- * and there may be none; what no polygon reaches isn't told.
+/* Puts polygons in order, as columns, at the beginning of three buffers, and tells their lengths, as overlay_polygons does. Where the shells of two
+ * first differ, the one with the lesser point (by x, then by y) goes first; a shell goes before those that begin with all of its points. What several
+ * calls of overlay_polygons told is handed in as one list: the columns of one behind those of another, with offsets that go on. Offsets may begin
+ * anywhere, and there may be none; what no polygon reaches isn't told.
  *
  *   made_coordinates, made_rings, made_polygons, and their lengths   the columns: each ring has a point, and each polygon a ring
- *   coordinates, rings, polygons, and their lengths                  where the columns go, as of overlay_polygons; they overlap none of the others
- *   answer                                                           where the answer goes; not null
+ *   coordinates, rings, polygons, and their lengths                  where the columns go, as of overlay_polygons
+ *   answer                                                           where the answer goes
  *
  * OVERLAY_COORDINATE_MISSING: an x has no y. OVERLAY_RING_OFFSET, OVERLAY_POLYGON_OFFSET: an offset isn't greater than the one before it, or passes
  * the end of the next column; detail is its number, from 0 on. OVERLAY_CONTRADICTION: two polygons have one shell; detail is the number of one of them.
@@ -479,14 +484,14 @@ void overlay_strip_write(const int32_t *made_coordinates, size_t made_coordinate
                          const uint32_t *made_polygons, size_t made_polygons_length, int32_t *coordinates, size_t coordinates_length, uint32_t *rings,
                          size_t rings_length, uint32_t *polygons, size_t polygons_length, struct overlay_columns_answer *answer);
 
-/* Puts the words of an answer of two layers without a text at the beginning of a room, as `A: 1 syntax at 16`, without a 0 or a line feed, and
+/* Puts the words of an answer of two layers without a text at the beginning of a buffer, as `A: 1 syntax at 16`, without a 0 or a line feed, and
  * returns their length in bytes: 0 where they don't fit, where memory ran out, or where there is nothing to say. Refusals from
  * OVERLAY_TOO_MANY_IDS on have no words, and the part of an answer of faces is no part of two layers: overlay_reason tells why these are refused.
  * An answer of columns has the words of an overlay_answer with the same detail, status, number and part.
  *
- *   answer              what a call answered; it is read alone
- *   room, room_length   where the words go, and how many bytes there may be written: OVERLAY_WORDS are enough */
-size_t overlay_words(const struct overlay_answer *answer, uint8_t *room, size_t room_length);
+ *   answer                  what a call answered; it is read alone
+ *   buffer, buffer_length   where the words go, and how many bytes there may be written: OVERLAY_WORDS are enough */
+size_t overlay_words(const struct overlay_answer *answer, uint8_t *buffer, size_t buffer_length);
 
 /* Returns the tile side that the program takes where none is given, in grid units: 262144, or the least greater power of two that
  * doesn't give too many tiles, or 262144 where a layer is refused. Both layers, with their lengths in bytes, are read once. */
@@ -532,8 +537,8 @@ static inline const char *overlay_reason(uint32_t number) {
     }
 }
 
-/* overlay_fill with layers that end with a 0, a side that fits and a room of its own: returns the text, with a 0 behind it, which the caller
- * owns from then on and lets go by free; null where the status is not OVERLAY_ANSWERED. A room as large as both layers is tried first, and
+/* overlay_fill with layers that end with a 0, a side that fits and a buffer of its own: returns the text, with a 0 behind it, which the caller
+ * owns from then on and lets go by free; null where the status is not OVERLAY_ANSWERED. A buffer as large as both layers is tried first, and
  * where it is too small as large a one as the text wants.
  *
  *   call, a, b   as of overlay_fill
@@ -544,16 +549,16 @@ static inline char *overlay_text(uint32_t call, const char *a, const char *b, st
     size_t m = strlen(a), n = strlen(b), length = m + n;
     uint32_t side = overlay_side(first, m, second, n);
     for (;;) {
-        uint8_t *room = (uint8_t *)malloc(length + 1);
+        uint8_t *buffer = (uint8_t *)malloc(length + 1);
         *answer = no_memory;
-        if (!room)
+        if (!buffer)
             return NULL;
-        overlay_fill(call, side, first, m, second, n, room, length, answer);
+        overlay_fill(call, side, first, m, second, n, buffer, length, answer);
         if (answer->status == OVERLAY_ANSWERED) {
-            room[answer->length] = 0;
-            return (char *)room;
+            buffer[answer->length] = 0;
+            return (char *)buffer;
         }
-        free(room);
+        free(buffer);
         if (answer->status != OVERLAY_SMALL)
             return NULL;
         length = (size_t)answer->length;
@@ -580,7 +585,7 @@ static inline void overlay_free(struct overlay_owned_columns *owned) {
     owned->coordinates_length = owned->rings_length = owned->polygons_length = 0;
 }
 
-/* Takes rooms of these lengths; 0 where there is no memory for one of them. */
+/* Takes buffers of these lengths; 0 where there is no memory for one of them. */
 static inline int overlay_take(struct overlay_owned_columns *owned, size_t coordinates, size_t rings, size_t polygons) {
     owned->coordinates = (int32_t *)malloc((coordinates ? coordinates : 1) * sizeof(int32_t));
     owned->rings = (uint32_t *)malloc((rings ? rings : 1) * sizeof(uint32_t));
@@ -591,8 +596,8 @@ static inline int overlay_take(struct overlay_owned_columns *owned, size_t coord
     return owned->coordinates && owned->rings && owned->polygons;
 }
 
-/* overlay_columns_fill with a side that fits and with rooms of its own: the result's columns, which the caller owns from then on and lets
- * go by overlay_free. Rooms as large as both layers are tried first, and where they are too small those that the result asks for. Where the
+/* overlay_columns_fill with a side that fits and with buffers of its own: the result's columns, which the caller owns from then on and lets
+ * go by overlay_free. Buffers as large as both layers are tried first, and where they are too small those that the result asks for. Where the
  * status is not OVERLAY_ANSWERED there are no columns: their pointers and lengths are 0.
  *
  *   call, segments, a, b   as of overlay_columns_fill
@@ -602,17 +607,17 @@ static inline void overlay_arrays(uint32_t call, uint32_t segments, const struct
                                   struct overlay_owned_columns *owned, struct overlay_columns_answer *answer) {
     static const struct overlay_columns_answer no_memory = {0, 0, 0, 0, OVERLAY_NO_MEMORY, OVERLAY_OUT_OF_MEMORY, OVERLAY_RUN};
     uint32_t side = overlay_columns_side(a, b);
-    int has_room = overlay_take(owned, a->coordinates_length + b->coordinates_length, a->rings_length + b->rings_length,
+    int has_buffers = overlay_take(owned, a->coordinates_length + b->coordinates_length, a->rings_length + b->rings_length,
                                 a->polygons_length + b->polygons_length);
     *answer = no_memory;
-    while (has_room) {
+    while (has_buffers) {
         overlay_columns_fill(call, side, segments, a, b, owned->coordinates, owned->coordinates_length, owned->rings,
                              owned->rings_length, owned->polygons, owned->polygons_length, answer);
         if (answer->status != OVERLAY_SMALL)
             break;
         overlay_free(owned);
-        has_room = overlay_take(owned, (size_t)answer->coordinates, (size_t)answer->rings, (size_t)answer->polygons);
-        *answer = has_room ? *answer : no_memory;
+        has_buffers = overlay_take(owned, (size_t)answer->coordinates, (size_t)answer->rings, (size_t)answer->polygons);
+        *answer = has_buffers ? *answer : no_memory;
     }
     if (answer->status != OVERLAY_ANSWERED)
         overlay_free(owned);

@@ -511,7 +511,7 @@ struct asked {
 static struct overlay_faces_answer faces_filled(const struct asked *asked, const struct face_rooms *rooms, int round) {
     void *const *places = rooms->places;
     const uint64_t *lengths = rooms->lengths;
-    struct overlay_face_rooms passed = {places[0], lengths[0], places[1], lengths[1], places[2], lengths[2], places[3], lengths[3],
+    struct overlay_face_buffers passed = {places[0], lengths[0], places[1], lengths[1], places[2], lengths[2], places[3], lengths[3],
                                         places[4], lengths[4], places[5], lengths[5], places[6], lengths[6]}, before = passed;
     struct overlay_faces_answer answer;
     memset(&answer, 9, sizeof answer);

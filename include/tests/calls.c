@@ -603,7 +603,7 @@ static struct overlay_faces_answer face_columns_filled(uint32_t side, uint32_t s
     size_t n[7];
     for (int k = 0; k < 7; k++)
         n[k] = WANTED[k] + (few == 7) - (few == k);
-    struct overlay_face_rooms rooms = {room->coordinates, n[0], room->rings, n[1], room->polygons, n[2], room->rows, n[3],
+    struct overlay_face_buffers rooms = {room->coordinates, n[0], room->rings, n[1], room->polygons, n[2], room->rows, n[3],
                                        room->twice_areas, n[4], room->ids, n[5], room->lists, n[6]}, before = rooms;
     struct overlay_faces_answer answer;
     memset(room, 7, sizeof *room);
@@ -634,7 +634,7 @@ static void face_columns(void) {
     struct overlay_faces_answer none = face_columns_filled(SIDE, 8, 4, both, 0, &room, 7);
     check(none.status == OVERLAY_ANSWERED && !none.coordinates && none.rings == 1 && none.polygons == 1 && none.rows == 1 && !none.twice_areas
               && !none.ids && none.lists == 1 && !room.rings[0] && !room.polygons[0] && !room.rows[0] && !room.lists[0], "columns of no layers");
-    check(sizeof none == 80 && offsetof(struct overlay_faces_answer, part) == 72 && sizeof(struct overlay_face_rooms) == 112, "the structs as they are laid out");
+    check(sizeof none == 80 && offsetof(struct overlay_faces_answer, part) == 72 && sizeof(struct overlay_face_buffers) == 112, "the structs as they are laid out");
 }
 
 static void face_columns_refusals(void) {

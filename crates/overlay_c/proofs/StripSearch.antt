@@ -1,6 +1,6 @@
 -- A search by halves for an item of a list that ascends; and lists of which a front is in place, or has the same numbers.
 use Rattle.std.proofs.Common.{◌≡◌, ◌⊎◌, ◌<◌, ◌≤◌, ◌+◌, ◌∙◌, inl, inr, ℕ, Bool, true, false, List, arith, get_or, length, refl, subst, sym, take}
-use Rattle.std.specs.Prelude.{◌≢◌, AllPairs, None, MatchBool, Some, nat_lt, not, slice_get}
+use Rattle.std.specs.Prelude.{◌≢◌, AllPairs, MatchBool, MatchOption, None, Option, Some, nat_lt, not, slice_get}
 use Rattle.std.specs.List.Sorted.{IsPartitionedBy}
 use Rattle.std.proofs.lemmas.Bool.{cases_lt, cases_order, false≢true, lt-ltb, ltb-true}
 use Rattle.std.proofs.lemmas.List.{get_or-map, get_or_default, length-map, take_more_same}
@@ -13,7 +13,9 @@ use Rattle.geom.proofs.Orders.{before_itself, before_trans}
 use Rattle.overlay_c.specs.declared.strip_items.OverlayCarried.{OverlayCarried}
 use Rattle.overlay_c.specs.declared.strip_items.OverlayCounted.{OverlayCounted}
 use Rattle.overlay_c.specs.declared.strip_items.OverlayOpen.{OverlayOpen}
-use Rattle.overlay_c.specs.Strips.{IsCarriedBefore, IsCountedBefore, IsFirstDifference, IsInPlace, IsOther, carried_numbers, counted_end, counted_start, open_numbers}
+use Rattle.overlay_c.specs.Search.{IsFirstUnlike, IsUnlike}
+use Rattle.overlay_c.specs.Search.IsUnlike.{is_none, is_after}
+use Rattle.overlay_c.specs.Strips.{AreInPlace, IsCarriedBefore, IsCountedBefore, IsFirstBad, IsFirstDifference, IsInPlace, IsOther, carried_numbers, counted_end, counted_start, open_numbers}
 
 -- ---- one more in place
 pub more_in_place : {X : Type 0} (IsItem : X → Type 0) (Before : X → X → Type 0) (items : List X) (place : ℕ) → ((k : ℕ) → k < place → IsInPlace IsItem Before items k) → IsInPlace IsItem Before items place
@@ -22,6 +24,22 @@ more_in_place IsItem Before items place h at k less = elim (cases_lt k place) [
   | inl l ↦ h k l
   | inr m ↦ let e : place ≡ k = omega (arith, less, m) in subst (λ (n : ℕ). IsInPlace IsItem Before items n) e at
 ]
+
+-- ---- tests that are exact
+module _ {X : Type 0} (IsItem Passes Fails : X → Type 0) (Before PassesOrder FailsOrder : X → X → Type 0) (yes : (x : X) → Passes x → IsItem x) (no : (x : X) → Fails x → IsItem x → ⊥)
+    (before : (x y : X) → PassesOrder x y → Before x y) (never : (x y : X) → FailsOrder x y → Before x y → ⊥) (items : List X) where
+  place_told : (k : ℕ) → IsInPlace Passes PassesOrder items k → IsInPlace IsItem Before items k
+  place_told k at = record { is_item = λ d. yes (get_or items k d) (at.is_item d); behind = λ d less. before _ _ (at.behind d less) }
+
+  unlike_told : (d : X) (k : ℕ) → IsUnlike Fails FailsOrder items k → IsInPlace IsItem Before items k → ⊥
+  unlike_told d k (is_none h) at = no (get_or items k d) (h d) (at.is_item d)
+  unlike_told d k (is_after less h) at = never _ _ (h d) (at.behind d less)
+
+  -- the first item that fails them is the first bad one
+  pub told_bad : (d : X) (r : Option ℕ) → MatchOption r (AreInPlace Passes PassesOrder items) (λ place. IsFirstUnlike Passes Fails PassesOrder FailsOrder items place)
+      → MatchOption r (AreInPlace IsItem Before items) (λ place. IsFirstBad IsItem Before items place)
+  told_bad d None h = λ place less. place_told place (h place less)
+  told_bad d (Some place) h = record { within = h.within; before = λ k less. place_told k (h.before k less); bad = unlike_told d place h.unlike }
 
 -- ---- numbers
 pub same_more : (right : List OverlayOpen) (carried : List OverlayCarried) (place : ℕ) (o : OverlayOpen) (c : OverlayCarried) → place < length right → place < length carried

@@ -8,5 +8,6 @@ pub mod FacesColumns
 pub mod Strips
 pub mod StripLabels
 pub mod Polygons
+pub mod Search
 pub mod StripClosed
 pub mod StripWrite

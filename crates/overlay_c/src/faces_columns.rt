@@ -1,8 +1,6 @@
 //! The faces of layers that C passes as columns.
 
 ghost use Rattle.std.specs.Prelude.{◌≡◌, ◌≤◌, MatchResult, length, take};
-ghost use Rattle.grid.specs.Tiles.{AreBounds};
-ghost use Rattle.layers.specs.Grids.{AreJointBounds};
 ghost use Rattle.overlay_c.specs.FacesColumns.{AreFaceColumns, FailsFaceColumns, IsSideOfLayers, face_lists_of, layers_in};
 
 use crate::answer::NO_CALL;
@@ -10,8 +8,8 @@ use crate::columns_layer::{OverlayColumns, columns_from};
 use crate::faces_answer::{OverlayFacesAnswer, answer_of_face_columns, no_faces};
 use columns::{Columns, Points, survey};
 use engine::{FacesColumns, FacesLimits, MOST_LAYERS, faces_columns_alone};
-use geom::Rect;
 use grid::{DEFAULT_SIDE, default_side};
+use layers::joint_bounds;
 use rows::RowColumns;
 use std::alloc::Global;
 
@@ -67,16 +65,4 @@ pub fn side_of_layers(layers: &[OverlayColumns<'_>]) -> u32
         }
     }
     default_side(bounds)
-}
-
-/// The least box that has both.
-fn joint_bounds(a: Option<Rect>, b: Option<Rect>) -> Option<Rect>
-    ensures joint { AreJointBounds a b result }
-    ensures in_limit { AreBounds a → AreBounds b → AreBounds result }
-{
-    match (a, b) {
-        (Some(r), Some(s)) => Some(r.with(s.lo).with(s.hi)),
-        (Some(r), None) => Some(r),
-        (None, other) => other,
-    }
 }

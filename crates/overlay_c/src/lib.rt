@@ -5,7 +5,7 @@
 //! 3. What fits is put into the room (`room`, `columns_rooms`, `face_rooms`, `strip_answer`); a status, or a refusal's number and place, tells the rest (`answer`, `words`).
 //!
 //! A map that is rounded strip by strip goes through four calls (`strip_scatter`, `strip_round`, `strip_bridge`, `strip_edges`); the lists that pass
-//! from one to the next are the caller's (`strip_items`), and are tested when they come back (`strip_checks`, `strip_contradictions`).
+//! from one to the next are the caller's (`strip_items`), and are tested when they come back (`search`, `strip_checks`, `strip_contradictions`).
 //! Together they tell the rounded edges of the whole map (`strip_law`). Two more calls tell the directed edges of a result along them
 //! (`strip_labels`, `strip_going_on`, `strip_labels_checks`), all of them (`strip_law`).
 //!
@@ -40,6 +40,7 @@ mod polygons_checks;
 mod polygons_law;
 mod polygons_made;
 mod room;
+mod search;
 mod strip_answer;
 mod strip_bridge;
 mod strip_checks;

@@ -1,10 +1,10 @@
 //! Directed edges from outside are tested: the first one that isn't as it should be, or doesn't stand behind the one before it.
 
-ghost use Rattle.std.specs.Prelude.{◌≡◌, ◌<◌, MatchBool, MatchOption, length};
-ghost use Rattle.geom.specs.Directed.{IsDirectedBefore};
-ghost use Rattle.overlay_c.specs.Polygons.{AreDirectedItems, IsDirectedItem, IsDirectedItemBefore, IsProper, directed_edge};
-ghost use Rattle.overlay_c.specs.Strips.{IsFirstBad, IsInPlace};
+ghost use Rattle.std.specs.Prelude.{◌≡◌, MatchBool, MatchOption};
+ghost use Rattle.overlay_c.specs.Polygons.{AreDirectedItems, IsDirectedItem, IsDirectedItemBefore, directed_edge};
+ghost use Rattle.overlay_c.specs.Strips.{IsFirstBad};
 
+use crate::search::first_bad;
 use crate::strip_checks::is_before;
 use crate::strip_items::OverlayDirected;
 use geom::{DirectedEdge, Pt};
@@ -26,36 +26,24 @@ pub fn directed_edge(item: OverlayDirected) -> DirectedEdge
 }
 
 /// Whether an edge is less than another one.
-pub fn is_directed_before(d: DirectedEdge, e: DirectedEdge) -> bool
-    ensures { MatchBool result (IsDirectedBefore d e) (¬ (IsDirectedBefore d e)) }
+pub fn is_directed_before(item: OverlayDirected, other: OverlayDirected) -> bool
+    ensures { MatchBool result (IsDirectedItemBefore item other) (¬ (IsDirectedItemBefore item other)) }
 {
+    let (d, e) = (directed_edge(item), directed_edge(other));
     is_before(d.from, e.from) || (d.from == e.from && is_before(d.to, e.to))
 }
 
 /// Whether an edge is within the limit, and no point alone.
-pub fn is_proper(d: DirectedEdge) -> bool
-    ensures { MatchBool result (IsProper d) (¬ (IsProper d)) }
+pub fn is_proper(item: OverlayDirected) -> bool
+    ensures { MatchBool result (IsDirectedItem item) (¬ (IsDirectedItem item)) }
 {
+    let d = directed_edge(item);
     d.from.is_in_limit() && d.to.is_in_limit() && d.from != d.to
-}
-
-/// Whether the edge at a place of a list is in place.
-fn is_directed_in_place(items: &[OverlayDirected], place: usize) -> bool
-    requires { place < length items.now }
-    ensures { MatchBool result (IsInPlace IsDirectedItem IsDirectedItemBefore items.now place) (¬ (IsInPlace IsDirectedItem IsDirectedItemBefore items.now place)) }
-{
-    let edge = directed_edge(items[place]);
-    is_proper(edge) && (place == 0 || is_directed_before(directed_edge(items[place - 1]), edge))
 }
 
 /// The place of the first edge that isn't in place.
 pub fn bad_directed(items: &[OverlayDirected]) -> Option<usize>
     ensures { MatchOption result (AreDirectedItems items.now) (λ place. IsFirstBad IsDirectedItem IsDirectedItemBefore items.now place) }
 {
-    for place in 0..items.len() {
-        if !is_directed_in_place(items, place) {
-            return Some(place);
-        }
-    }
-    None
+    first_bad(items, is_proper, is_directed_before)
 }

@@ -1,12 +1,13 @@
 //! The directed edges that a range of strips knows are tested: the first one that isn't as it should be, or doesn't stand behind the one before it.
 
-ghost use Rattle.std.specs.Prelude.{◌<◌, MatchBool, MatchOption, length};
+ghost use Rattle.std.specs.Prelude.{MatchBool, MatchOption};
 ghost use Rattle.parts_law.specs.Ties.{HasColumn};
-ghost use Rattle.overlay_c.specs.Polygons.{IsDirectedItemBefore, directed_edge};
+ghost use Rattle.overlay_c.specs.Polygons.{IsDirectedItemBefore};
 ghost use Rattle.overlay_c.specs.StripClosed.{AreStrips, IsKnownItem};
-ghost use Rattle.overlay_c.specs.Strips.{AreInPlace, IsFirstBad, IsInPlace};
+ghost use Rattle.overlay_c.specs.Strips.{AreInPlace, IsFirstBad};
 
 use crate::polygons_checks::{directed_edge, is_directed_before, is_proper};
+use crate::search::first_bad;
 use crate::strip_items::OverlayDirected;
 use geom::{DirectedEdge, Edge};
 use strips_law::strip_at;
@@ -32,24 +33,7 @@ fn has_column(cuts: &[i32], first: usize, past: usize, edge: DirectedEdge) -> bo
 fn is_known(cuts: &[i32], first: usize, past: usize, item: OverlayDirected) -> bool
     ensures { MatchBool result (IsKnownItem cuts.now first past item) (¬ (IsKnownItem cuts.now first past item)) }
 {
-    let edge = directed_edge(item);
-    is_proper(edge) && has_column(cuts, first, past, edge)
-}
-
-/// Whether the edge at a place of a list is in place.
-fn is_known_in_place(
-    cuts: &[i32],
-    first: usize,
-    past: usize,
-    items: &[OverlayDirected],
-    place: usize,
-) -> bool
-    requires { place < length items.now }
-    ensures { MatchBool result (IsInPlace (IsKnownItem cuts.now first past) IsDirectedItemBefore items.now place) (¬ (IsInPlace (IsKnownItem cuts.now first past) IsDirectedItemBefore items.now place)) }
-{
-    is_known(cuts, first, past, items[place])
-        && (place == 0
-            || is_directed_before(directed_edge(items[place - 1]), directed_edge(items[place])))
+    is_proper(item) && has_column(cuts, first, past, directed_edge(item))
 }
 
 /// The place of the first edge that isn't in place.
@@ -61,10 +45,9 @@ pub fn bad_known(
 ) -> Option<usize>
     ensures { MatchOption result (AreInPlace (IsKnownItem cuts.now first past) IsDirectedItemBefore items.now) (λ place. IsFirstBad (IsKnownItem cuts.now first past) IsDirectedItemBefore items.now place) }
 {
-    for place in 0..items.len() {
-        if !is_known_in_place(cuts, first, past, items, place) {
-            return Some(place);
-        }
-    }
-    None
+    first_bad(
+        items,
+        |item| is_known(cuts, first, past, item),
+        is_directed_before,
+    )
 }

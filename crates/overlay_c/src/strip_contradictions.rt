@@ -1,8 +1,9 @@
 //! Lists from outside that contradict each other.
 
-ghost use Rattle.std.specs.Prelude.{◌≡◌, ◌<◌, MatchBool, MatchOption, length};
-ghost use Rattle.overlay_c.specs.Strips.{AnyOrder, AreInPlace, IsCarried, IsCarriedBefore, IsCounted, IsCountedBefore, IsFirstBad, IsFirstDifference, IsInPlace, IsKnown, IsOther, carried_numbers, counted_end, counted_start, open_numbers};
+ghost use Rattle.std.specs.Prelude.{◌≡◌, MatchBool, MatchOption};
+ghost use Rattle.overlay_c.specs.Strips.{AnyOrder, AreInPlace, IsCarried, IsCarriedBefore, IsCounted, IsCountedBefore, IsFirstBad, IsFirstDifference, IsKnown, IsOther, carried_numbers, counted_end, counted_start, open_numbers};
 
+use crate::search::first_bad;
 use crate::strip_checks::is_counted_before;
 use crate::strip_items::{OverlayCarried, OverlayCounted, OverlayOpen};
 
@@ -35,26 +36,12 @@ fn is_known(carried: &[OverlayCarried], item: OverlayOpen) -> bool
     place < carried.len() && carried[place].number == item.number
 }
 
-/// Whether the open line at a place of a list is known.
-fn is_known_in_place(carried: &[OverlayCarried], left: &[OverlayOpen], place: usize) -> bool
-    requires carried { AreInPlace IsCarried IsCarriedBefore carried.now }
-    requires place { place < length left.now }
-    ensures { MatchBool result (IsInPlace (IsKnown carried.now) AnyOrder left.now place) (¬ (IsInPlace (IsKnown carried.now) AnyOrder left.now place)) }
-{
-    is_known(carried, left[place])
-}
-
 /// The place of the first line that has no pixel and for which none is carried.
 pub fn lost(carried: &[OverlayCarried], left: &[OverlayOpen]) -> Option<usize>
     requires { AreInPlace IsCarried IsCarriedBefore carried.now }
     ensures { MatchOption result (AreInPlace (IsKnown carried.now) AnyOrder left.now) (λ place. IsFirstBad (IsKnown carried.now) AnyOrder left.now place) }
 {
-    for place in 0..left.len() {
-        if !is_known_in_place(carried, left, place) {
-            return Some(place);
-        }
-    }
-    None
+    first_bad(left, |item| is_known(carried, item), |_, _| true)
 }
 
 /// Whether two edges have the same ends.
@@ -73,24 +60,10 @@ fn is_other(edges: &[OverlayCounted], item: OverlayCounted) -> bool
     place == edges.len() || !has_same_ends(edges[place], item)
 }
 
-/// Whether the edge at a place of a list is another one than those of a list.
-fn is_other_in_place(edges: &[OverlayCounted], others: &[OverlayCounted], place: usize) -> bool
-    requires edges { AreInPlace IsCounted IsCountedBefore edges.now }
-    requires place { place < length others.now }
-    ensures { MatchBool result (IsInPlace (IsOther edges.now) AnyOrder others.now place) (¬ (IsInPlace (IsOther edges.now) AnyOrder others.now place)) }
-{
-    is_other(edges, others[place])
-}
-
 /// The place of the first edge that another list has too.
 pub fn common(edges: &[OverlayCounted], others: &[OverlayCounted]) -> Option<usize>
     requires { AreInPlace IsCounted IsCountedBefore edges.now }
     ensures { MatchOption result (AreInPlace (IsOther edges.now) AnyOrder others.now) (λ place. IsFirstBad (IsOther edges.now) AnyOrder others.now place) }
 {
-    for place in 0..others.len() {
-        if !is_other_in_place(edges, others, place) {
-            return Some(place);
-        }
-    }
-    None
+    first_bad(others, |item| is_other(edges, item), |_, _| true)
 }

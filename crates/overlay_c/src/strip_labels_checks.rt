@@ -1,21 +1,15 @@
 //! The edges of a strip from outside are tested for its labels: the first one that isn't as it should be, or doesn't stand behind the one before it.
 
-ghost use Rattle.std.specs.Prelude.{◌≡◌, ◌<◌, ◌<ℤ◌, MatchBool, MatchOption, length};
+ghost use Rattle.std.specs.Prelude.{◌≡◌, ◌<ℤ◌, MatchBool, MatchOption};
 ghost use Rattle.geom.specs.Limit.{AreInLimit};
 ghost use Rattle.strips_law.specs.Strips.{strip_at};
-ghost use Rattle.overlay_c.specs.Strips.{AnyOrder, AreInPlace, IsCounted, IsCountedBefore, IsFirstBad, IsInPlace, counted_end, counted_start};
+ghost use Rattle.overlay_c.specs.Strips.{AnyOrder, AreInPlace, IsCountedBefore, IsFirstBad, counted_end, counted_start};
 ghost use Rattle.overlay_c.specs.StripLabels.{BeginsLeft, ComesIn, CrossesInto, IsLimited, IsOwn};
 
-use crate::strip_checks::{is_before, is_counted_before};
+use crate::search::first_bad;
+use crate::strip_checks::{is_counted_before, is_ordered};
 use crate::strip_items::OverlayCounted;
 use strips_law::strip_at;
-
-/// Whether an edge has its lesser end first.
-fn is_ordered(item: OverlayCounted) -> bool
-    ensures { MatchBool result (IsCounted item) (¬ (IsCounted item)) }
-{
-    is_before(item.start(), item.end())
-}
 
 // ---- edges that have labels
 
@@ -33,24 +27,11 @@ fn is_limited(item: OverlayCounted) -> bool
     is_ordered(item) && is_in_limit(item)
 }
 
-/// Whether the edge at a place of a list is in place.
-fn is_limited_in_place(items: &[OverlayCounted], place: usize) -> bool
-    requires { place < length items.now }
-    ensures { MatchBool result (IsInPlace IsLimited IsCountedBefore items.now place) (¬ (IsInPlace IsLimited IsCountedBefore items.now place)) }
-{
-    is_limited(items[place]) && (place == 0 || is_counted_before(items[place - 1], items[place]))
-}
-
 /// The place of the first edge that isn't in place.
 pub fn bad_limited(items: &[OverlayCounted]) -> Option<usize>
     ensures { MatchOption result (AreInPlace IsLimited IsCountedBefore items.now) (λ place. IsFirstBad IsLimited IsCountedBefore items.now place) }
 {
-    for place in 0..items.len() {
-        if !is_limited_in_place(items, place) {
-            return Some(place);
-        }
-    }
-    None
+    first_bad(items, is_limited, is_counted_before)
 }
 
 /// Whether an edge begins on the left of another one.
@@ -68,26 +49,12 @@ fn begins_left(own: &[OverlayCounted], item: OverlayCounted) -> bool
     own.is_empty() || is_left(item, own[0])
 }
 
-/// Whether the edge at a place of a list does.
-fn begins_left_in_place(own: &[OverlayCounted], items: &[OverlayCounted], place: usize) -> bool
-    requires own { AreInPlace IsLimited IsCountedBefore own.now }
-    requires place { place < length items.now }
-    ensures { MatchBool result (IsInPlace (BeginsLeft own.now) AnyOrder items.now place) (¬ (IsInPlace (BeginsLeft own.now) AnyOrder items.now place)) }
-{
-    begins_left(own, items[place])
-}
-
 /// The place of the first edge that comes into a strip and doesn't begin on the left of its own ones.
 pub fn late(own: &[OverlayCounted], crossing: &[OverlayCounted]) -> Option<usize>
     requires { AreInPlace IsLimited IsCountedBefore own.now }
     ensures { MatchOption result (AreInPlace (BeginsLeft own.now) AnyOrder crossing.now) (λ place. IsFirstBad (BeginsLeft own.now) AnyOrder crossing.now place) }
 {
-    for place in 0..crossing.len() {
-        if !begins_left_in_place(own, crossing, place) {
-            return Some(place);
-        }
-    }
-    None
+    first_bad(crossing, |item| begins_left(own, item), |_, _| true)
 }
 
 // ---- edges that come into a strip
@@ -106,25 +73,11 @@ fn comes_in(cuts: &[i32], strip: usize, item: OverlayCounted) -> bool
     is_ordered(item) && crosses_into(cuts, strip, item)
 }
 
-/// Whether the edge at a place of a list is in place.
-fn is_crossing_in_place(cuts: &[i32], strip: usize, items: &[OverlayCounted], place: usize) -> bool
-    requires { place < length items.now }
-    ensures { MatchBool result (IsInPlace (ComesIn cuts.now strip) IsCountedBefore items.now place) (¬ (IsInPlace (ComesIn cuts.now strip) IsCountedBefore items.now place)) }
-{
-    comes_in(cuts, strip, items[place])
-        && (place == 0 || is_counted_before(items[place - 1], items[place]))
-}
-
 /// The place of the first edge that isn't in place.
 pub fn bad_crossing(cuts: &[i32], strip: usize, items: &[OverlayCounted]) -> Option<usize>
     ensures { MatchOption result (AreInPlace (ComesIn cuts.now strip) IsCountedBefore items.now) (λ place. IsFirstBad (ComesIn cuts.now strip) IsCountedBefore items.now place) }
 {
-    for place in 0..items.len() {
-        if !is_crossing_in_place(cuts, strip, items, place) {
-            return Some(place);
-        }
-    }
-    None
+    first_bad(items, |item| comes_in(cuts, strip, item), is_counted_before)
 }
 
 // ---- a strip's own edges
@@ -143,23 +96,9 @@ fn is_own(cuts: &[i32], strip: usize, item: OverlayCounted) -> bool
     is_ordered(item) && begins_in(cuts, strip, item)
 }
 
-/// Whether the edge at a place of a list is in place.
-fn is_own_in_place(cuts: &[i32], strip: usize, items: &[OverlayCounted], place: usize) -> bool
-    requires { place < length items.now }
-    ensures { MatchBool result (IsInPlace (IsOwn cuts.now strip) IsCountedBefore items.now place) (¬ (IsInPlace (IsOwn cuts.now strip) IsCountedBefore items.now place)) }
-{
-    is_own(cuts, strip, items[place])
-        && (place == 0 || is_counted_before(items[place - 1], items[place]))
-}
-
 /// The place of the first edge that isn't in place.
 pub fn bad_own(cuts: &[i32], strip: usize, items: &[OverlayCounted]) -> Option<usize>
     ensures { MatchOption result (AreInPlace (IsOwn cuts.now strip) IsCountedBefore items.now) (λ place. IsFirstBad (IsOwn cuts.now strip) IsCountedBefore items.now place) }
 {
-    for place in 0..items.len() {
-        if !is_own_in_place(cuts, strip, items, place) {
-            return Some(place);
-        }
-    }
-    None
+    first_bad(items, |item| is_own(cuts, strip, item), is_counted_before)
 }

@@ -1,36 +1,27 @@
 //! Polygons that several tasks have told, brought in order, for C.
 
-ghost use Rattle.std.specs.Prelude.{◌<◌, MatchBool, MatchOption, MatchResult, length};
+ghost use Rattle.std.specs.Prelude.{MatchOption, MatchResult};
 ghost use Rattle.polygon_order.specs.Order.{AreWhole};
 ghost use Rattle.overlay_c.specs.Columns.{FillsRooms, lists_of};
-ghost use Rattle.overlay_c.specs.StripWrite.{AreOffsetsInPlace, AreWrittenTold, FailsWrite, IsBadOffset, IsOffset, IsOffsetBefore};
-ghost use Rattle.overlay_c.specs.Strips.{IsInPlace};
+ghost use Rattle.overlay_c.specs.StripWrite.{AreOffsetsInPlace, AreWrittenTold, FailsWrite, IsBadOffset};
 
 use crate::columns_answer::{OverlayColumnsAnswer, told};
 use crate::columns_rooms::fill_rooms;
 use crate::polygons_made::no_memory;
+use crate::search::first_bad;
 use columns::OwnedColumns;
 use polygon_order::{OrderFault, PolygonColumns, ordered};
 use std::alloc::Global;
 
-/// Whether the offset at a place is no further than so many items, and behind the one before it.
-fn is_offset_in_place(count: usize, offsets: &[u32], place: usize) -> bool
-    requires { place < length offsets.now }
-    ensures { MatchBool result (IsInPlace (IsOffset count) IsOffsetBefore offsets.now place) (¬ (IsInPlace (IsOffset count) IsOffsetBefore offsets.now place)) }
-{
-    offsets[place] as usize <= count && (place == 0 || offsets[place - 1] < offsets[place])
-}
-
-/// The place of the first offset that isn't.
+/// The place of the first offset that is further than so many items, or isn't behind the one before it.
 fn bad_offset(count: usize, offsets: &[u32]) -> Option<usize>
     ensures { MatchOption result (AreOffsetsInPlace count offsets.now) (λ place. IsBadOffset count offsets.now place) }
 {
-    for place in 0..offsets.len() {
-        if !is_offset_in_place(count, offsets, place) {
-            return Some(place);
-        }
-    }
-    None
+    first_bad(
+        offsets,
+        |offset| offset as usize <= count,
+        |one, next| one < next,
+    )
 }
 
 /// The answer where columns are refused.

@@ -1,7 +1,9 @@
+use Rattle.std.proofs.Common.{rules}
+use Rattle.std.proofs.Math.IntN.{pos}
 use Rattle.overlay_c.specs.Polygons.{IsDirectedItemBefore}
 use Rattle.overlay_c.specs.StripClosed.{IsKnownItem}
-use Rattle.overlay_c.proofs.StripSearch.{more_in_place}
+use Rattle.overlay_c.proofs.StripSearch.{told_bad}
 use Rattle.overlay_c.proofs.strip_closed_checks.bad_known.Goals as goal
 
-pub loop-place-preserved : goal.loop-place-preserved
-loop-place-preserved c = more_in_place (IsKnownItem c.args.cuts.now c.args.first c.args.past) IsDirectedItemBefore c.args.items.now c.loop-place.place c.loop-place.invariant c.if-not-is_known_in_place.ensures
+pub returns : goal.returns
+returns c = told_bad (IsKnownItem c.args.cuts.now c.args.first c.args.past) _ _ IsDirectedItemBefore _ _ (λ x p. search rules) (λ x p q. search rules) (λ x y p. p) (λ x y p. p) c.args.items.now (record { ax = pos 0; ay = pos 0; bx = pos 0; by = pos 0 }) c.first_bad.result c.first_bad.ensures

@@ -1,6 +1,8 @@
+use Rattle.std.proofs.Common.{rules}
+use Rattle.std.proofs.Math.IntN.{pos}
 use Rattle.overlay_c.specs.Strips.{AnyOrder, IsOther}
-use Rattle.overlay_c.proofs.StripSearch.{more_in_place}
+use Rattle.overlay_c.proofs.StripSearch.{told_bad}
 use Rattle.overlay_c.proofs.strip_contradictions.common.Goals as goal
 
-pub loop-place-preserved : goal.loop-place-preserved
-loop-place-preserved c = more_in_place (IsOther c.args.edges.now) AnyOrder c.args.others.now c.loop-place.place c.loop-place.invariant c.if-not-is_other_in_place.ensures
+pub returns : goal.returns
+returns c = told_bad (IsOther c.args.edges.now) _ _ AnyOrder _ _ (λ x p. search rules) (λ x p q. search rules) (λ x y p. search rules) (λ x y p q. search rules) c.args.others.now (record { px = pos 0; py = pos 0; qx = pos 0; qy = pos 0; in_a = 0; in_b = 0 }) c.first_bad.result c.first_bad.ensures

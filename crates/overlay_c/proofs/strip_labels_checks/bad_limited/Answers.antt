@@ -1,7 +1,8 @@
+use Rattle.std.proofs.Math.IntN.{pos}
 use Rattle.overlay_c.specs.Strips.{IsCountedBefore}
 use Rattle.overlay_c.specs.StripLabels.{IsLimited}
-use Rattle.overlay_c.proofs.StripSearch.{more_in_place}
+use Rattle.overlay_c.proofs.StripSearch.{told_bad}
 use Rattle.overlay_c.proofs.strip_labels_checks.bad_limited.Goals as goal
 
-pub loop-place-preserved : goal.loop-place-preserved
-loop-place-preserved c = more_in_place IsLimited IsCountedBefore c.args.items.now c.loop-place.place c.loop-place.invariant c.if-not-is_limited_in_place.ensures
+pub returns : goal.returns
+returns c = told_bad IsLimited _ _ IsCountedBefore _ _ (λ x p. p) (λ x p. p) (λ x y p. p) (λ x y p. p) c.args.items.now (record { px = pos 0; py = pos 0; qx = pos 0; qy = pos 0; in_a = 0; in_b = 0 }) c.first_bad.result c.first_bad.ensures

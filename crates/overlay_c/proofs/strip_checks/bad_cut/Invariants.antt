@@ -1,7 +1,0 @@
-use Rattle.std.proofs.Common.{◌<◌, ℕ}
-use Rattle.overlay_c.specs.Strips.{IsCut, IsCutBefore, IsInPlace}
-use Rattle.overlay_c.proofs.strip_checks.bad_cut.Given as goal
-
--- those before this place are in place
-abbrev pub invariant-loop-place : goal.invariant-loop-place
-invariant-loop-place l = (k : ℕ) → k < l.place → IsInPlace IsCut IsCutBefore l.cuts k

@@ -1,0 +1,8 @@
+use Rattle.std.proofs.Common.{rules}
+use Rattle.std.proofs.Math.IntN.{pos}
+use Rattle.overlay_c.specs.Strips.{IsOpen, IsOpenBefore}
+use Rattle.overlay_c.proofs.StripSearch.{told_bad}
+use Rattle.overlay_c.proofs.strip_checks.bad_open.Goals as goal
+
+pub returns : goal.returns
+returns c = told_bad IsOpen _ _ IsOpenBefore _ _ (λ x p. p) (λ x p. p) (λ x y p. search rules) (λ x y p q. search rules) c.args.items.now (record { number = 0; layer = 0; has_pixel = 0; x = pos 0; y = pos 0 }) c.first_bad.result c.first_bad.ensures
