@@ -13,6 +13,8 @@ use Rattle.layers.specs.declared.faces_limits.FacesLimits.{FacesLimits}
 use Rattle.engine.specs.declared.faces_report.FacesReport.{FacesReport}
 use Rattle.program.specs.Loading.{AreLoadedInTurn, AreSomeLoaded, IsFirstUnread, Loads}
 use Rattle.program.specs.FacesLine.{IsFacesAskedBy, IsFacesRefusalOf, asks_for_faces}
+use Rattle.program.specs.NodedLine.{asks_for_noded}
+use Rattle.program.specs.NodedProgram.{DoesNodedLine}
 use Rattle.program.specs.Program.{DoesLine, IsChosenSideOver, IsFittedOver, Shows, TellsFacesFault, TellsFile, TellsLine, TellsMemory, limit_of}
 use Rattle.program.specs.declared.asked.CliFault.{CliFault}
 use Rattle.program.specs.declared.asked.FacesRequest.{FacesRequest}
@@ -79,4 +81,5 @@ DoesFacesLine loads out_state err_state files files' out out' err err' words sta
 -- any command line is done
 pub record DoesAnyLine {F O E : Type 0} (loads : Loads F) (out_state : O → SinkState) (err_state : E → SinkState) (files files' : F) (out out' : O) (err err' : E) (words : List Text) (status : ℕ) : Type 0 where
   pub of_faces : asks_for_faces words ≡ true → DoesFacesLine loads out_state err_state files files' out out' err err' words status
-  pub of_two_layers : asks_for_faces words ≡ false → DoesLine loads out_state err_state files files' out out' err err' words status
+  pub of_noded : asks_for_faces words ≡ false → asks_for_noded words ≡ true → DoesNodedLine loads out_state err_state files files' out out' err err' words status
+  pub of_two_layers : asks_for_faces words ≡ false → asks_for_noded words ≡ false → DoesLine loads out_state err_state files files' out out' err err' words status

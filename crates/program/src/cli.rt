@@ -44,6 +44,9 @@ edges prints a line `x1 y1 x2 y2 countA countB` for each edge of both layers aft
 faces, which stands before all other words, takes 1 to 64 layers, and prints a line for each set of
 their features (polygon texts, numbered from 1) that covers some points together: twice the area, the
 numbers of each layer's features, and the points as one MULTIPOLYGON text, with tabs between.
+noded, which stands before all other words too, takes one file of lines `x1 y1 x2 y2`, as edges prints
+them or another tool, and --workers N. It prints `noded` where no two different edges share a point but
+a common end, and else refuses the least pair that does.
 
 A layer is a text of POLYGON and MULTIPOLYGON geometries, at most 268435456 bytes long, with whole
 coordinates from -268435456 to 268435456, in grid units. All layers together have at most 1048576
@@ -77,7 +80,9 @@ pub(crate) fn word_arg<'a>(alloc: Global) -> Arg<'a>
     Arg::new(alloc, "command")
         .action(ArgAction::Set)
         .required(true)
-        .help("What to compute: union, intersection, difference, symdifference, edges or faces")
+        .help(
+            "What to compute: union, intersection, difference, symdifference, edges, faces or noded",
+        )
 }
 
 fn file_arg<'a>(alloc: Global, id: &'a str, name: &'a str, help: &'a str) -> Arg<'a>

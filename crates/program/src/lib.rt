@@ -14,6 +14,8 @@ mod faces_cli;
 mod faces_program;
 mod files;
 mod measured_program;
+mod noded_cli;
+mod noded_program;
 mod program;
 mod stream;
 
@@ -21,5 +23,6 @@ pub use asked::{CliFault, Command, FacesRequest, Request};
 pub use cli::request;
 pub use faces_cli::faces_request;
 pub use files::{Disk, Files, LoadFault, READ_LIMIT};
+pub use noded_cli::{NodedRequest, noded_request};
 pub use program::{drive, drive_process};
 pub use stream::{ErrSink, StdSink, Stream};

@@ -11,6 +11,8 @@ use crate::faces_cli::is_for_faces;
 use crate::faces_program::drive_faces;
 use crate::files::{Files, LoadFault};
 use crate::measured_program::answer_measured;
+use crate::noded_cli::is_for_noded;
+use crate::noded_program::drive_noded;
 use engine::{
     Limits, Plan, Report, Sink, edges_within, fitting_side, line, report_text, run_within, status,
     text_limit, write_all,
@@ -60,6 +62,9 @@ pub fn drive<R: Threads + Wait + Sync, S: AsStr, F: Files, O: Sink, E: Sink>(
 {
     if is_for_faces(words) {
         return drive_faces(rt, alloc, words, files, out, err);
+    }
+    if is_for_noded(words) {
+        return drive_noded(rt, alloc, words, files, out, err);
     }
     match request(alloc, words) {
         Ok(asked) => answer(rt, alloc, &asked, files, out, err),

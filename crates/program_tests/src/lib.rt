@@ -11,6 +11,8 @@ mod covered_layers;
 #[cfg(test)]
 mod driving;
 #[cfg(test)]
+mod noded_edges;
+#[cfg(test)]
 mod refusals;
 #[cfg(test)]
 mod sinks;
