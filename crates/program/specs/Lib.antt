@@ -4,3 +4,5 @@ pub mod Program
 pub mod FacesLine
 pub mod FacesProgram
 pub mod Loading
+pub mod Printing
+pub mod Process
