@@ -46,7 +46,7 @@ def on_raw_map(rows: list[Row], valid: list[Row]) -> str:
         found = "right area"
     if found == "right area" or not answers(valid):
         return found
-    return found + "; right area if made valid first"
+    return found + "; right if made valid"
 
 
 def common_of(rows: list[Row]) -> Row:

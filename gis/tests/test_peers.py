@@ -183,9 +183,9 @@ def test_readmes_table_is_made_of_the_largest_maps(tmp_path, monkeypatch):
     record(tmp_path, "peers", HEAD, [row("Peer", area_off="+5"), *PEERS])
     assert compared.table()[2:] == [
         "|**overlay 1**|right area|same bytes|text to text|1.0|1.0|",
-        "|Peer 1|error; right area if made valid first|1 thread|operation alone|4.5|6.0|",
+        "|Peer 1|error; right if made valid|1 thread|operation alone|4.5|6.0|",
         "|Peer, grid 1|–|1 thread|operation alone|9.0|–|",
-        "|Loser 1|loses 36% of the area; right area if made valid first|–|–|–|–|",
+        "|Loser 1|loses 36% of the area; right if made valid|–|–|–|–|",
         "|Stops 1|error|1 thread|operation alone|2.0|–|",
         "|Starts 1|–|–|file to file|1.0|–|",
         "|Gone, Away|not run: no Debian package|–|–|–|–|",
