@@ -46,7 +46,7 @@ def on_raw_map(rows: list[Row], valid: list[Row]) -> str:
         found = "right area"
     if found == "right area" or not answers(valid):
         return found
-    return found + "; right area if made valid first"
+    return found + "; right if made valid"
 
 
 def common_of(rows: list[Row]) -> Row:
@@ -56,14 +56,14 @@ def common_of(rows: list[Row]) -> Row:
 
 def without_start(row: Row) -> float:
     """The processor seconds of a row without those of the start."""
-    return number(row.get("processor s", "")) - number(row.get("start s", ""))
+    return max(number(row.get("processor s", "")) - number(row.get("start s", "")), 0.0)
 
 
 def ratio(seconds: float, ours: float) -> str:
     return "%.1f" % (seconds / ours) if seconds and ours else NONE
 
 
-def threads(tool: str, own: Row) -> str:
+def threads(own: Row) -> str:
     """Whether one thread writes the bytes of several."""
     if not own:
         return NONE
@@ -82,14 +82,14 @@ def cells(tool: str, rows: dict[str, list[Row]], ours: float) -> list[str]:
     own = common_of(found)
     whole = without_start(own) if own.get("timed") == peer_tools.TEXTS else number(own.get("text to text s", ""))
     raw = on_raw_map(found, rows.get(tool + VALID, []))
-    return [named(tool, found[-1]["version"]), raw, threads(tool, own), own.get("timed", NONE), ratio(without_start(own), ours), ratio(whole, ours)]
+    return [named(tool, found[-1]["version"]), raw, threads(own), own.get("timed") or NONE, ratio(without_start(own), ours), ratio(whole, ours)]
 
 
 def not_run(found: dict[str, list[Row]]) -> list[list[str]]:
     """The tools that weren't there, by the reasons."""
     reasons: dict[str, list[str]] = {}
     for tool, rows in found.items():
-        if rows[-1]["answers"].startswith(NOT_RUN) and not tool.endswith(VALID) and tool != peer_tools.Faces.name:
+        if rows[-1]["answers"].startswith(NOT_RUN) and ", " not in tool and tool != peer_tools.Faces.name:
             reasons.setdefault(re.split("[:,] ", rows[-1]["answers"].removeprefix(NOT_RUN))[0], []).append(tool)
     return [[", ".join(tools), NOT_RUN + reason, *[NONE] * (len(HEAD) - 1)] for reason, tools in reasons.items()]
 

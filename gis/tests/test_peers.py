@@ -19,7 +19,7 @@ from shapely.ops import unary_union
 TOP = Path(__file__).resolve().parents[2]
 sys.path.insert(0, str(TOP / "bench"))
 
-from overlay_bench import capabilities, compared, documents, noding, peer_tools, peers, plot, postgres, results, shapes, town  # noqa: E402
+from overlay_bench import compared, documents, noding, peer_tools, peers, plot, postgres, results, shapes, town  # noqa: E402
 
 HOLED = [[(0, 0), (9, 0), (9, 9), (0, 9)], [(1, 1), (1, 3), (3, 3), (3, 1)]]
 SMALL = [[(20, 0), (24, 0), (22, 3)]]
@@ -156,18 +156,21 @@ def record(folder, name, head, rows):
 
 
 HEAD = (*results.HEAD, *peers.HEAD)
+ALONE = {"timed": "operation alone", "threads": "1"}
+OURS = {"timed": "text to text", "area off": "+0.000", "again": "same bytes", "other order": "same bytes", "points": "noded"}
 PEERS = [
-    row("Peer", segments="10", area_off="+9.9", ratio="77"),
-    row("Peer", area_off="-0.25", again="same bytes", other_order="same polygons", ratio="4.49", threads="1", points="decimals"),
-    row("Peer", map="raw", answers="status 1: TopologyException: side location conflict"),
-    row("Peer, grid 1", area_off="+0.001", again="same bytes", other_order="same bytes", threads="1", points="noded"),
-    row("Peer, made valid", map="raw", area_off="+0.001", again="same bytes", other_order="same bytes", threads="1"),
-    row("overlay", area_off="+0.000", again="same bytes", other_order="same bytes", ratio="1.00", threads="4", points="noded"),
-    row("overlay", map="raw", area_off="+0.000", again="same bytes", other_order="same bytes", threads="3", points="noded"),
-    row("Loser", map="raw", area_off="-361594.1", again="same bytes", other_order="other points", threads="1"),
-    row("Loser, made valid", map="raw", area_off="+0.1", again="same bytes", other_order="no answer within 9 processor s", threads="1"),
-    row("Stops", map="raw", answers="status 1: a ring isn't simple"),
-    row("Stops", area_off="+0.000", again="same bytes", other_order="same bytes", ratio="2", threads="1", points="crossings: 3"),
+    row("Peer", segments="10", area_off="+9.9", processor_s="77"),
+    row("Peer", area_off="-0.25", processor_s="1.8", text_to_text_s="2.4", **ALONE),
+    row("Peer", map="raw", answers="status 1: TopologyException: side location conflict", **ALONE),
+    row("Peer, grid 1", area_off="+0.001", processor_s="3.6", **ALONE),
+    row("Peer, made valid", map="raw", area_off="+0.001", **ALONE),
+    row("overlay", processor_s="0.5", start_s="0.1", threads="4", **OURS, **{"1 and N threads": "same bytes"}),
+    row("overlay", map="raw", threads="3", **OURS),
+    row("Loser", map="raw", area_off="-361594.1", **ALONE),
+    row("Loser, made valid", map="raw", area_off="+0.1", **ALONE),
+    row("Stops", map="raw", answers="status 1: a ring isn't simple", **ALONE),
+    row("Stops", area_off="+0.000", processor_s="0.8", **ALONE),
+    row("Starts", area_off="+0.000", processor_s="5.2", start_s="4.8", timed="file to file", threads="2"),
     row("Gone", segments="", job="", map="", answers="not run: no Debian package, for this"),
     row("Away", segments="", job="", map="", answers="not run: no Debian package: but another"),
     row("Gone, grid 1", segments="", job="", map="", answers="not run: no Debian package, for this"),
@@ -179,34 +182,13 @@ def test_readmes_table_is_made_of_the_largest_maps(tmp_path, monkeypatch):
     assert len(compared.table()) == 2
     record(tmp_path, "peers", HEAD, [row("Peer", area_off="+5"), *PEERS])
     assert compared.table()[2:] == [
-        "|**overlay 1** | exact, noded | answers | same bytes | 4 | 1 | – | – | –|",
-        "|Peer 1 | noded, if asked | made valid, answers | same polygons | 1 | 4.5 | – | – | –|",
-        "|Loser 1 | – | loses 36% of the area; made valid, answers | other points | 1 | – | – | – | –|",
-        "|Stops 1 | crossings: 3 | stops | same bytes | 1 | 2.0 | – | – | –|",
-        "|Gone, Away | not run: no Debian package|",
-    ]
-
-
-def asked(tool, version, **found):
-    names = {"two": "faces of two layers", "three": "faces of three layers"}
-    common = {"date": "2026-11-27", "tool": tool, "version": version}
-    return [{**common, "asked": names.get(name, name), "has": has} for name, has in found.items()]
-
-
-def test_readmes_last_columns_are_what_the_same_versions_showed(tmp_path, monkeypatch):
-    monkeypatch.setattr(results, "FOLDER", str(tmp_path))
-    record(tmp_path, "peers", HEAD, PEERS)
-    files = {name: "yes" for name in capabilities.FILES}
-    found = asked("overlay", "overlay 1, of 2", two="yes", three="yes", **files, decimals="no", lines="no", grid="yes")
-    found += asked("Peer", "Peer 1, of 2", two="yes", three="no", WKT="yes", GeoJSON="no", grid="no", program="yes")
-    found += asked("Loser", "Loser 1, of 2", two="by Join", three="by Join", WKT="no")
-    found += asked("Stops", "Stops 2, of 2", two="yes", WKT="yes")
-    record(tmp_path, "capabilities", (*results.HEAD, *capabilities.HEAD), found)
-    assert [line.rsplit("|", 4)[1:4] for line in compared.table()[2:6]] == [
-        [" yes ", " all ", " decimals, lines"],
-        [" two layers ", " WKT ", " grid"],
-        [" by `Join` ", " none ", " none"],
-        [" – ", " – ", " –"],
+        "|**overlay 1**|right area|same bytes|text to text|1.0|1.0|",
+        "|Peer 1|error; right if made valid|1 thread|operation alone|4.5|6.0|",
+        "|Peer, grid 1|–|1 thread|operation alone|9.0|–|",
+        "|Loser 1|loses 36% of the area; right if made valid|–|–|–|–|",
+        "|Stops 1|error|1 thread|operation alone|2.0|–|",
+        "|Starts 1|–|–|file to file|1.0|–|",
+        "|Gone, Away|not run: no Debian package|–|–|–|–|",
     ]
 
 
@@ -244,7 +226,7 @@ def test_the_drawing_is_the_same_and_has_each_series(tmp_path, monkeypatch):
         for size in ("10,000", "100,000")
     ]
     record(tmp_path, "speed", ("kind", "segments", "command", "1 worker: processor s", "ratio", "ratio"), speed)
-    record(tmp_path, "peers", HEAD, [{**row, "processor s": "0.5"} for row in PEERS])
+    record(tmp_path, "peers", HEAD, [{**row, "processor s": "0.5", "start s": ""} for row in PEERS])
     drawn = plot.picture()
     names = [text.text for text in ElementTree.fromstring(drawn).iter("{http://www.w3.org/2000/svg}text")]
     assert {"parcels", "combs", "Peer", "overlay"} <= set(names) and "Peer, made valid" not in names
