@@ -584,7 +584,7 @@ def test_a_great_layer_at_a_great_zoom(gis, tmp_path):
     assert piece.number == 1 and piece.shape().equals(box(0, 0, EXTENT + 64, EXTENT + 64))
     Path("out.mbtiles").unlink()
     answer = gis("tiles", *words[:-2], "--only", "21/1048576/655360")
-    assert answer.status == 3 and "zoom 21: a feature reaches beyond the limits of this zoom's grid" in answer.err
+    assert answer.status == 3 and "zoom 21: a feature reaches beyond the limits of its grid" in answer.err
 
 
 PAGE = (TOP / "docs" / "TILES.md").read_text()

@@ -330,5 +330,10 @@ def check_kind(name: str, path: Path) -> None:
     if path.suffix in (MBTILES, PMTILES):
         if path.is_dir():
             raise Refusal(name, "is a folder, and no file of tiles")
-    elif path.exists() and not (path.is_dir() and all(held.name == METADATA or held.name.isdigit() for held in path.iterdir())):
+    elif path.exists() and not (path.is_dir() and all(is_of_tiles(held.name) for held in path.iterdir())):
         raise Refusal(name, "is there, and is no folder that has tiles alone")
+
+
+def is_of_tiles(name: str) -> bool:
+    """Whether a folder of tiles has something of that name."""
+    return name == METADATA or name.isdigit()

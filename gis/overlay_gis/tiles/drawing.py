@@ -68,19 +68,24 @@ class Read:
     features: Numbers
     drawn: Drawn
 
+    @property
+    def segments(self) -> int:
+        return len(self.polygons.x) - len(self.polygons.lengths)
+
 
 def read(source: Source, fields: Fields, system: str | None) -> Read:
     """A layer with these fields; `system` is its reference system where it names none."""
     seen = surveyed(source)
     defined = fields_of(source, fields.names)
-    values = list(compress(source.values([field.GetName() for field in defined], seen), seen.kinds == Kind.SOUND))
+    names = [field.GetName() for field in defined]
+    values = list(compress(source.values(names, seen), seen.kinds == Kind.SOUND))
     ids = seen.sound.ids.tolist()
     check_texts(source, ids, values)
     polygons = in_web(source, whole_rings(source, seen), system)
     features, firsts = told_apart(values) if fields.by else (np.arange(len(ids)), list(range(len(ids))))
     shown = [tuple(map(value_of, defined, values[k])) for k in firsts]
-    kinds = list(map(kind_of, defined))
-    return Read(polygons, features, Drawn(source.stem, [field.GetName().encode() for field in defined], kinds, [ids[k] for k in firsts], shown))
+    keys, kinds = [name.encode() for name in names], list(map(kind_of, defined))
+    return Read(polygons, features, Drawn(source.stem, keys, kinds, [ids[k] for k in firsts], shown))
 
 
 def check_texts(source: Source, ids: Sequence[int], values: Sequence[tuple[Any, ...]]) -> None:
@@ -154,7 +159,9 @@ def refuse_long(source: Source, layer: Columns[Floats]) -> None:
         raise Refusal(source.name, f"feature {layer.ids[beyond[0]]} {words}")
 
 
-def transformed(layer: Columns[Floats], system: osr.SpatialReference, web: osr.SpatialReference, name: str) -> Columns[Floats]:
+def transformed(
+    layer: Columns[Floats], system: osr.SpatialReference, web: osr.SpatialReference, name: str
+) -> Columns[Floats]:
     """The same in another system, whose sides are straight lines between the corners there. A point
     that has no place there has inf for its coordinates."""
     with during(f"transforming {name}"):
