@@ -22,6 +22,7 @@ from shapely.geometry import Polygon, box
 
 from conftest import COMMAND, numbers_in, running, write
 from overlay_gis import whole
+from overlay_gis.calls import Cancelled, call
 from overlay_gis.columns import of_polygons
 from overlay_gis.rows import Members
 from overlay_gis.tiles import add_arguments, archives, levels, simplifying, small
@@ -205,10 +206,11 @@ def corners_left(*shapes):
         ([(50, 4), (100, 5), (150, 4)], [(100, 5)]),
         ([(50, 20), (100, 22), (150, 20)], [(50, 20), (100, 22), (150, 20)]),
         ([(50, 20), (100, 23), (150, 20)], [(50, 20), (100, 23), (150, 20)]),
+        ([(66, 5), (134, 5)], [(66, 5)]),  # equally far: the one to the left, and then the other is near
     ],
 )
 def test_both_sides_of_a_border_keep_the_same_points(program, points, kept):
-    """Points up to 4 units off the straight line between kept ones are left out."""
+    """Points up to 4 units off the straight line between kept ones are left out, by both sides."""
     above = [(0, -100), (200, -100), (200, 0), *reversed(points), (0, 0)]
     below = [(0, 0), *points, (200, 0), (200, 100), (0, 100)]
     for rings in corners_left([above], [below]):
@@ -481,7 +483,21 @@ def test_outputs_that_are_refused(gis, tmp_path):
     assert [path.name for path in Path("out").iterdir() if path.is_dir()] == ["5"]
 
 
-# Stops.
+# What is heard, and stops.
+
+
+def test_another_program_hears_how_far_it_is_and_may_end_it(tmp_path, program):
+    a, out, works = write_land(tmp_path), tmp_path / "out.mbtiles", {}
+
+    def progress(work, share):
+        works[work] = share
+        return work != "cutting tiles" or share == 0
+
+    with pytest.raises(Cancelled):
+        call(["tiles", a, "-o", str(out), "--zooms", "7-9"], progress=progress)
+    assert set(works) >= {"simplifying zoom 8", "simplifying zoom 7", "cutting tiles"}
+    assert [path.name for path in tmp_path.iterdir()] == ["land.gpkg"]
+
 
 
 @pytest.mark.parametrize("number", [signal.SIGKILL, signal.SIGTERM], ids=lambda number: number.name)
