@@ -238,6 +238,16 @@ def test_a_border_gets_its_points_back_where_a_hole_would_lie_outside(program):
     assert land[0] == set(LAND_WITH_SPIT)
 
 
+def test_both_sides_get_their_points_back(program):
+    """The bay is that of the right one of two shapes. Where it has an end of their border it gets that
+    back, too, and so does the left one, which has no fault."""
+    border = [(60, 0), (62, 25), (60, 50)]
+    left, right = [(0, 0), *border, (0, 50)], [(60, 0), *LAND_WITH_BAY[1:7], *border[:0:-1]]
+    assert corners_left([left], [right]) == [[{(0, 0), (0, 50), (60, 0), (60, 50)}], [{(60, 0), (200, 0), (200, 50), (60, 50)}]]
+    islets = [[[(x, 48), (x + 10, 48), (x + 10, 49), (x, 49)]] for x in (90, 100)]
+    assert corners_left([left], [right], *islets)[:2] == [[set(left)], [set(right)]]
+
+
 def test_an_islet_goes_with_its_hole(program):
     """A strip 2 units wide within land: neither has it, and nothing is left between them."""
     hole = [(90, 20), (90, 22), (110, 22), (110, 20)]
@@ -381,6 +391,19 @@ def test_tiles_of_other_options_are_not_mixed(gis, tmp_path):
     answer = gis("tiles", a, "-o", "plain.mbtiles", "--zooms", "6-7", "--only", "6/33/21")
     assert answer.status == 3 and "plain.mbtiles: doesn't tell by which options it was made" in answer.err
     assert contents("out.mbtiles") == old
+
+
+@pytest.mark.parametrize("name", FILES[:2])
+def test_tiles_are_not_put_into_a_broken_file(gis, tmp_path, name):
+    a = write_land(tmp_path)
+    words = ["tiles", a, "-o", name, "--zooms", "6-8"]
+    assert gis(*words).status == 0
+    held = Path(name).read_bytes()
+    broken = held[: len(held) // 2] + (bytes(len(held) - len(held) // 2) if name == "out.mbtiles" else b"")
+    Path(name).write_bytes(broken)
+    answer = gis(*words, "--only", "6/33/21")
+    assert answer.status == 1 and answer.err.startswith(f"overlay-gis: {name}: can't be read as tiles: "), answer.err
+    assert Path(name).read_bytes() == broken and not list(tmp_path.glob(".*"))
 
 
 # Refusals.

@@ -298,10 +298,11 @@ def wanted_by(arguments: Namespace, plan: Plan, layer: Read, fields: Fields) -> 
 
 def keep_others(target: Target, store: Store, wanted: Wanted) -> None:
     """Takes the tiles over that aren't made anew."""
-    for tile, data in archives.tiles_in(target.path):
-        places = wanted[tile.zoom]
-        if places is not None and (tile.x, tile.y) not in places:
-            store.add(tile, data)
+    with archives.readable(target.name):
+        for tile, data in archives.tiles_in(target.path):
+            places = wanted[tile.zoom]
+            if places is not None and (tile.x, tile.y) not in places:
+                store.add(tile, data)
 
 
 def main(arguments: Namespace) -> int:

@@ -10,7 +10,7 @@ from typing import Any, Sequence
 import numpy as np
 from osgeo import ogr, osr
 
-from ..columns import Columns, Floats, Numbers, gathered
+from ..columns import POINTS, Columns, Floats, Numbers, gathered
 from ..common_grid import Losses, tell_losses
 from ..encodings import WAYS, is_known
 from ..faults import Refusal
@@ -165,6 +165,9 @@ def transformed(
     """The same in another system, whose sides are straight lines between the corners there. A point
     that has no place there has inf for its coordinates."""
     with during(f"transforming {name}"):
-        way = osr.CoordinateTransformation(system, web)
-        points = np.array(way.TransformPoints(np.stack((layer.x, layer.y), axis=1))).reshape(-1, 3)
-    return layer.at(points[:, 0].copy(), points[:, 1].copy())
+        way, x, y = osr.CoordinateTransformation(system, web), np.empty_like(layer.x), np.empty_like(layer.y)
+        for at in range(0, len(x), POINTS):
+            part = slice(at, at + POINTS)
+            points = np.array(way.TransformPoints(np.stack((layer.x[part], layer.y[part]), axis=1)))
+            x[part], y[part] = points[:, 0], points[:, 1]
+    return layer.at(x, y)
