@@ -22,6 +22,7 @@ from shapely.geometry import Polygon, box
 
 from conftest import COMMAND, numbers_in, running, write
 from overlay_gis import whole
+from overlay_gis.calls import Cancelled, call
 from overlay_gis.columns import of_polygons
 from overlay_gis.rows import Members
 from overlay_gis.tiles import add_arguments, archives, levels, simplifying, small
@@ -205,10 +206,11 @@ def corners_left(*shapes):
         ([(50, 4), (100, 5), (150, 4)], [(100, 5)]),
         ([(50, 20), (100, 22), (150, 20)], [(50, 20), (100, 22), (150, 20)]),
         ([(50, 20), (100, 23), (150, 20)], [(50, 20), (100, 23), (150, 20)]),
+        ([(66, 5), (134, 5)], [(66, 5)]),  # equally far: the one to the left, and then the other is near
     ],
 )
 def test_both_sides_of_a_border_keep_the_same_points(program, points, kept):
-    """Points up to 4 units off the straight line between kept ones are left out."""
+    """Points up to 4 units off the straight line between kept ones are left out, by both sides."""
     above = [(0, -100), (200, -100), (200, 0), *reversed(points), (0, 0)]
     below = [(0, 0), *points, (200, 0), (200, 100), (0, 100)]
     for rings in corners_left([above], [below]):
@@ -234,6 +236,16 @@ def test_a_border_gets_its_points_back_where_a_hole_would_lie_outside(program):
     pond = [(90, 51), (90, 53), (110, 53), (110, 51)]
     (land, *_) = corners_left([LAND_WITH_SPIT, pond], [[(100, 51), (110, 51), (110, 53), (100, 53)]])
     assert land[0] == set(LAND_WITH_SPIT)
+
+
+def test_both_sides_get_their_points_back(program):
+    """The bay is that of the right one of two shapes. Where it has an end of their border it gets that
+    back, too, and so does the left one, which has no fault."""
+    border = [(60, 0), (62, 25), (60, 50)]
+    left, right = [(0, 0), *border, (0, 50)], [(60, 0), *LAND_WITH_BAY[1:7], *border[:0:-1]]
+    assert corners_left([left], [right]) == [[{(0, 0), (0, 50), (60, 0), (60, 50)}], [{(60, 0), (200, 0), (200, 50), (60, 50)}]]
+    islets = [[[(x, 48), (x + 10, 48), (x + 10, 49), (x, 49)]] for x in (90, 100)]
+    assert corners_left([left], [right], *islets)[:2] == [[set(left)], [set(right)]]
 
 
 def test_an_islet_goes_with_its_hole(program):
@@ -381,6 +393,19 @@ def test_tiles_of_other_options_are_not_mixed(gis, tmp_path):
     assert contents("out.mbtiles") == old
 
 
+@pytest.mark.parametrize("name", FILES[:2])
+def test_tiles_are_not_put_into_a_broken_file(gis, tmp_path, name):
+    a = write_land(tmp_path)
+    words = ["tiles", a, "-o", name, "--zooms", "6-8"]
+    assert gis(*words).status == 0
+    held = Path(name).read_bytes()
+    broken = held[: len(held) // 2] + (bytes(len(held) - len(held) // 2) if name == "out.mbtiles" else b"")
+    Path(name).write_bytes(broken)
+    answer = gis(*words, "--only", "6/33/21")
+    assert answer.status == 1 and answer.err.startswith(f"overlay-gis: {name}: can't be read as tiles: "), answer.err
+    assert Path(name).read_bytes() == broken and not list(tmp_path.glob(".*"))
+
+
 # Refusals.
 
 WORDS = {
@@ -481,7 +506,21 @@ def test_outputs_that_are_refused(gis, tmp_path):
     assert [path.name for path in Path("out").iterdir() if path.is_dir()] == ["5"]
 
 
-# Stops.
+# What is heard, and stops.
+
+
+def test_another_program_hears_how_far_it_is_and_may_end_it(tmp_path, program):
+    a, out, works = write_land(tmp_path), tmp_path / "out.mbtiles", {}
+
+    def progress(work, share):
+        works[work] = share
+        return work != "cutting tiles" or share == 0
+
+    with pytest.raises(Cancelled):
+        call(["tiles", a, "-o", str(out), "--zooms", "7-9"], progress=progress)
+    assert set(works) >= {"simplifying zoom 8", "simplifying zoom 7", "cutting tiles"}
+    assert [path.name for path in tmp_path.iterdir()] == ["land.gpkg"]
+
 
 
 @pytest.mark.parametrize("number", [signal.SIGKILL, signal.SIGTERM], ids=lambda number: number.name)
@@ -584,7 +623,7 @@ def test_a_great_layer_at_a_great_zoom(gis, tmp_path):
     assert piece.number == 1 and piece.shape().equals(box(0, 0, EXTENT + 64, EXTENT + 64))
     Path("out.mbtiles").unlink()
     answer = gis("tiles", *words[:-2], "--only", "21/1048576/655360")
-    assert answer.status == 3 and "zoom 21: a feature reaches beyond the limits of this zoom's grid" in answer.err
+    assert answer.status == 3 and "zoom 21: a feature reaches beyond the limits of its grid" in answer.err
 
 
 PAGE = (TOP / "docs" / "TILES.md").read_text()

@@ -188,7 +188,7 @@ def test_simplified_borders_stay_near_their_own(made):
         for number, source in enumerate(LAND):
             inside = on_grid(source, tile).intersection(frame())
             wrong = found.get(number, Polygon()).symmetric_difference(inside)
-            assert wrong.difference(on_grid(source.exterior, tile).buffer(2 * 4 + 3)).area < 1e-3
+            assert wrong.difference(on_grid(source.exterior, tile).buffer(2 * 4 + 4)).area < 1e-3
 
 
 def test_simplified_zooms_have_fewer_points(made):

@@ -10,14 +10,15 @@ import gzip
 import json
 import sqlite3
 import struct
-from contextlib import closing
+import zlib
+from contextlib import closing, contextmanager
 from dataclasses import dataclass
 from hashlib import sha256
 from itertools import accumulate
 from pathlib import Path
 from typing import IO, Any, Callable, Iterator, NamedTuple, Sequence
 
-from ..faults import Refusal
+from ..faults import Fault, Refusal
 from .mvt import BITS, packed, varint
 from .world import Tile, degrees
 
@@ -25,6 +26,9 @@ MBTILES, PMTILES, METADATA = ".mbtiles", ".pmtiles", "metadata.json"
 
 # What tells in a file of tiles how it was made.
 OPTIONS = "overlay-gis"
+
+# What a file that is broken ends a reader with.
+BROKEN = (sqlite3.Error, ValueError, KeyError, IndexError, EOFError, struct.error, zlib.error)
 
 # How a file of SQLite says that it is one of MBTiles.
 APPLICATION = 0x4D504258
@@ -82,7 +86,19 @@ class Store:
 
 def write(path: Path, tiles: Store, facts: Facts) -> None:
     """Writes tiles to a file, or else to a folder, as the name's ending says."""
-    {MBTILES: write_mbtiles, PMTILES: write_pmtiles}.get(path.suffix, write_folder)(path, tiles, facts)
+    try:
+        {MBTILES: write_mbtiles, PMTILES: write_pmtiles}.get(path.suffix, write_folder)(path, tiles, facts)
+    except sqlite3.Error as error:
+        raise Fault(path.name, f"can't be written: {error}") from error
+
+
+@contextmanager
+def readable(name: str) -> Iterator[None]:
+    """A file of tiles that is broken is a fault within."""
+    try:
+        yield
+    except BROKEN as error:
+        raise Fault(name, f"can't be read as tiles: {error}") from error
 
 
 def tiles_in(path: Path) -> Iterator[tuple[Tile, bytes]]:
@@ -94,10 +110,10 @@ def options_in(path: Path) -> dict[str, Any] | None:
     """The options by which tiles were made, where the file or the folder tells."""
     try:
         held = {MBTILES: facts_of_mbtiles, PMTILES: facts_of_pmtiles}.get(path.suffix, facts_of_folder)(path)
-        options = held.get(OPTIONS)
-        return options if isinstance(options, dict) else None
-    except (OSError, ValueError, KeyError, EOFError, struct.error, sqlite3.Error):
+    except (OSError, *BROKEN):
         return None
+    options = held.get(OPTIONS) if isinstance(held, dict) else None
+    return options if isinstance(options, dict) else None
 
 
 def write_mbtiles(path: Path, tiles: Store, facts: Facts) -> None:
@@ -305,7 +321,10 @@ def parts_of(path: Path) -> Iterator[bytes]:
             raise ValueError("another mark")
         for at, size in zip(held[0:8:2], held[1:8:2]):
             file.seek(at)
-            yield file.read(size)
+            part = file.read(size)
+            if len(part) < size:
+                raise ValueError("it is cut short")
+            yield part
 
 
 def pmtiles_in(path: Path) -> Iterator[tuple[Tile, bytes]]:
@@ -330,5 +349,10 @@ def check_kind(name: str, path: Path) -> None:
     if path.suffix in (MBTILES, PMTILES):
         if path.is_dir():
             raise Refusal(name, "is a folder, and no file of tiles")
-    elif path.exists() and not (path.is_dir() and all(held.name == METADATA or held.name.isdigit() for held in path.iterdir())):
+    elif path.exists() and not (path.is_dir() and all(is_of_tiles(held.name) for held in path.iterdir())):
         raise Refusal(name, "is there, and is no folder that has tiles alone")
+
+
+def is_of_tiles(name: str) -> bool:
+    """Whether a folder of tiles has something of that name."""
+    return name == METADATA or name.isdigit()

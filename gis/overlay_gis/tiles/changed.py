@@ -7,32 +7,22 @@ from itertools import chain
 
 import numpy as np
 
-from ..columns import Columns, Floats, Numbers
+from ..columns import Columns, Floats
 from .drawing import Read
 from .levels import MARGIN
 from .shaping import boxes
-from .world import EXTENT, rounded
-
-Places = frozenset[tuple[int, int]]  # tiles of a zoom, by their columns and rows
+from .world import EXTENT, Places, rounded
 
 
 def marks(layer: Read) -> dict[int, bytes]:
     """For the number of each feature a mark of its polygons and values."""
-    held, found = layer.polygons, {}
-    points = held.feature_points().tolist()
-    polygons, rings = held.features, held.polygons
-    for k, number in enumerate(held.ids.tolist()):
-        of_ring = slice(rings[polygons[k]], rings[polygons[k + 1]] + 1)
-        of_point = slice(points[k], points[k + 1])
-        parts = (held.rings[of_ring] - points[k], rings[polygons[k] : polygons[k + 1] + 1] - rings[polygons[k]], held.x[of_point], held.y[of_point])
-        values = layer.drawn.values[int(layer.features[k])]
-        found[number] = sha256(b"\0".join((*(part.tobytes() for part in parts), *map(repr_of, values)))).digest()
+    found = {}
+    for k, number in enumerate(layer.polygons.ids.tolist()):
+        one = layer.polygons.part(k, k + 1)
+        parts = [part.tobytes() for part in (one.polygons, one.rings, one.x, one.y)]
+        parts += layer.drawn.values[int(layer.features[k])]
+        found[number] = sha256(b"".join(b"%d:%s" % (len(part), part) for part in parts)).digest()
     return found
-
-
-def repr_of(value: bytes) -> bytes:
-    """A value with its length before it."""
-    return b"%d:%s" % (len(value), value)
 
 
 def differing(new: Read, old: Read) -> tuple[set[int], bool]:

@@ -28,18 +28,20 @@ from .shaping import composed, moved, thinned
 from .simplifying import simplified
 from .small import without_small
 
-class Wanted(NamedTuple):
-    """How far a border may move, in units, and below how many square units a piece is small."""
+
+class Detail(NamedTuple):
+    """How far a border may move, in units, and below how many square units a piece is small; 0 where
+    none is simplified, or is small."""
 
     simplify: float
     small: float
 
     @property
-    def anything(self) -> bool:
+    def leaves_out(self) -> bool:
         return bool(self.simplify or self.small)
 
 
-def coarse(level: Level, wanted: Wanted) -> Level:
+def coarse(level: Level, detail: Detail) -> Level:
     """The same level with less detail."""
     if not len(level.shapes.ids):
         return level
@@ -47,10 +49,10 @@ def coarse(level: Level, wanted: Wanted) -> Level:
     x, y = (int(left.min()) + int(right.max())) // 2, (int(top.min()) + int(bottom.max())) // 2
     rows = rows_for(name, moved(level.shapes, -x, -y))
     owners, shapes = of_equal_features(rows.shapes, composed(rows.members[0], level.owners))
-    if wanted.small:
-        owners, shapes = without_small(owners, shapes, 2 * wanted.small)
-    if wanted.simplify:
-        shapes = simplified(name, shapes, wanted.simplify)
+    if detail.small:
+        owners, shapes = without_small(owners, shapes, 2 * detail.small)
+    if detail.simplify:
+        shapes = simplified(name, shapes, detail.simplify)
     return made_of(level.zoom, moved(shapes, x, y), owners)
 
 

@@ -10,7 +10,7 @@ from typing import Any, Sequence
 import numpy as np
 from osgeo import ogr, osr
 
-from ..columns import Columns, Floats, Numbers, gathered
+from ..columns import POINTS, Columns, Floats, Numbers, gathered
 from ..common_grid import Losses, tell_losses
 from ..encodings import WAYS, is_known
 from ..faults import Refusal
@@ -68,19 +68,24 @@ class Read:
     features: Numbers
     drawn: Drawn
 
+    @property
+    def segments(self) -> int:
+        return len(self.polygons.x) - len(self.polygons.lengths)
+
 
 def read(source: Source, fields: Fields, system: str | None) -> Read:
     """A layer with these fields; `system` is its reference system where it names none."""
     seen = surveyed(source)
     defined = fields_of(source, fields.names)
-    values = list(compress(source.values([field.GetName() for field in defined], seen), seen.kinds == Kind.SOUND))
+    names = [field.GetName() for field in defined]
+    values = list(compress(source.values(names, seen), seen.kinds == Kind.SOUND))
     ids = seen.sound.ids.tolist()
     check_texts(source, ids, values)
     polygons = in_web(source, whole_rings(source, seen), system)
     features, firsts = told_apart(values) if fields.by else (np.arange(len(ids)), list(range(len(ids))))
     shown = [tuple(map(value_of, defined, values[k])) for k in firsts]
-    kinds = list(map(kind_of, defined))
-    return Read(polygons, features, Drawn(source.stem, [field.GetName().encode() for field in defined], kinds, [ids[k] for k in firsts], shown))
+    keys, kinds = [name.encode() for name in names], list(map(kind_of, defined))
+    return Read(polygons, features, Drawn(source.stem, keys, kinds, [ids[k] for k in firsts], shown))
 
 
 def check_texts(source: Source, ids: Sequence[int], values: Sequence[tuple[Any, ...]]) -> None:
@@ -154,10 +159,15 @@ def refuse_long(source: Source, layer: Columns[Floats]) -> None:
         raise Refusal(source.name, f"feature {layer.ids[beyond[0]]} {words}")
 
 
-def transformed(layer: Columns[Floats], system: osr.SpatialReference, web: osr.SpatialReference, name: str) -> Columns[Floats]:
+def transformed(
+    layer: Columns[Floats], system: osr.SpatialReference, web: osr.SpatialReference, name: str
+) -> Columns[Floats]:
     """The same in another system, whose sides are straight lines between the corners there. A point
     that has no place there has inf for its coordinates."""
     with during(f"transforming {name}"):
-        way = osr.CoordinateTransformation(system, web)
-        points = np.array(way.TransformPoints(np.stack((layer.x, layer.y), axis=1))).reshape(-1, 3)
-    return layer.at(points[:, 0].copy(), points[:, 1].copy())
+        way, x, y = osr.CoordinateTransformation(system, web), np.empty_like(layer.x), np.empty_like(layer.y)
+        for at in range(0, len(x), POINTS):
+            part = slice(at, at + POINTS)
+            points = np.array(way.TransformPoints(np.stack((layer.x[part], layer.y[part]), axis=1)))
+            x[part], y[part] = points[:, 0], points[:, 1]
+    return layer.at(x, y)

@@ -18,7 +18,8 @@ def check_room(name: str, layer: Columns[Numbers]) -> None:
     """Refuses what reaches beyond the limits of the program's grid."""
     farthest = max(int(np.abs(at).max(initial=0)) for at in (layer.x, layer.y))
     if farthest > LIMIT:
-        raise Refusal(name, "a feature reaches beyond the limits of this zoom's grid, 2^28 units each way: make lower zooms, or cut it")
+        reason = "a feature reaches beyond the limits of its grid, 2^28 units each way: make lower zooms, or cut it"
+        raise Refusal(name, reason)
 
 
 def rows_for(name: str, *layers: Columns[Numbers]) -> Rows:

@@ -20,7 +20,7 @@ from ..merging import Groups, merged
 from ..rows import Members, Rows
 from .engine import rows_for
 from .shaping import Box, boxes, clipped, composed, counting, moved, spread, taken, thinned
-from .world import EXTENT
+from .world import EXTENT, Places
 
 # Tiles of a block, each way.
 SIDE = 8
@@ -46,10 +46,13 @@ class Block:
     def places(self, at: int, around: int) -> range:
         return range(max(at * SIDE - around, 0), min((at + 1) * SIDE + around, 1 << self.zoom))
 
+    def has(self, tile: tuple[int, int]) -> bool:
+        return tile[0] in self.columns() and tile[1] in self.rows()
+
     def box(self, reach: int) -> Box:
         """All units of its tiles, and so many round them."""
-        columns, rows = self.columns(), self.rows()
-        return Box(columns[0] * EXTENT - reach, rows[0] * EXTENT - reach, (columns[-1] + 1) * EXTENT + reach, (rows[-1] + 1) * EXTENT + reach)
+        (left, right), (top, bottom) = ((at[0] * EXTENT, (at[-1] + 1) * EXTENT) for at in (self.columns(), self.rows()))
+        return Box(left - reach, top - reach, right + reach, bottom + reach)
 
 
 @dataclass(frozen=True)
@@ -72,12 +75,13 @@ class Level:
     def blocks(self, buffer: int) -> list[Block]:
         """The blocks with a frame that the box of a shape reaches, in order."""
         side, last = SIDE * EXTENT, max((1 << self.zoom) // SIDE, 1) - 1
-        left, top, right, bottom = (np.clip((at + reach) // side, 0, last) for at, reach in zip(self.boxes, (-buffer, -buffer, buffer, buffer)))
+        reaches = (-buffer, -buffer, buffer, buffer)
+        left, top, right, bottom = (np.clip((at + way) // side, 0, last) for at, way in zip(self.boxes, reaches))
         across, down = right - left + 1, bottom - top + 1
         inside = counting(across * down)
         owner = np.repeat(np.arange(len(across)), across * down)
-        found = np.unique(np.stack((left[owner] + inside % across[owner], top[owner] + inside // across[owner]), axis=1), axis=0)
-        return [Block(self.zoom, x, y) for x, y in found.tolist()]
+        x, y = left[owner] + inside % across[owner], top[owner] + inside // across[owner]
+        return [Block(self.zoom, *place) for place in np.unique(np.stack((x, y), axis=1), axis=0).tolist()]
 
 
 def made_of(zoom: int, shapes: Columns[Numbers], owners: Members) -> Level:
@@ -108,7 +112,7 @@ def frames(block: Block, buffer: int) -> tuple[list[tuple[int, int]], Columns[Nu
     return tiles, Columns(x.ravel(), y.ravel(), 5 * count, count, count, count[:-1])
 
 
-def cut(level: Level, block: Block, buffer: int, wanted: frozenset[tuple[int, int]] | None) -> Pieces:
+def cut(level: Level, block: Block, buffer: int, wanted: Places | None) -> Pieces:
     """What the tiles of a block show, or those of them that are wanted."""
     box = block.box(buffer + MARGIN)
     places = level.reaching(box)
@@ -116,7 +120,7 @@ def cut(level: Level, block: Block, buffer: int, wanted: frozenset[tuple[int, in
     shapes = moved(thinned(clipped(taken(level.shapes, places), box)), -x, -y)
     tiles, squares = frames(block, buffer)
     rows = rows_for(f"zoom {level.zoom}", shapes, moved(squares, -x, -y))
-    own = [column in block.columns() and row in block.rows() and (wanted is None or (column, row) in wanted) for column, row in tiles]
+    own = [block.has(tile) and (wanted is None or tile in wanted) for tile in tiles]
     tile, feature, made = by_pairs(rows, members_at(level.owners, places), np.array(own))
     corners = np.repeat(np.array(tiles, np.int64)[tile] * EXTENT, np.diff(made.feature_points()), axis=0)
     return Pieces(tiles, tile, feature, made.at(made.x + x - corners[:, 0], made.y + y - corners[:, 1]))

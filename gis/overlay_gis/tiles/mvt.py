@@ -120,11 +120,17 @@ def layer(name: str, keys: Sequence[bytes], features: Iterable[tuple[int | None,
     known_values: dict[bytes, int] = {}
     made = []
     for number, values, geometry in features:
-        tags = [(known_keys.setdefault(key, len(known_keys)), known_values.setdefault(held, len(known_values))) for key, held in zip(keys, values) if held]
-        made.append(message(2, feature(number, b"".join(varint(k) + varint(v) for k, v in tags), geometry)))
+        there = [(key, held) for key, held in zip(keys, values) if held]
+        tags = [varint(numbered(known_keys, key)) + varint(numbered(known_values, held)) for key, held in there]
+        made.append(message(2, feature(number, b"".join(tags), geometry)))
     parts = [plain(15, VERSION), message(1, name.encode()), *made]
     parts += [message(3, key) for key in known_keys] + [message(4, held) for held in known_values]
     return message(3, b"".join((*parts, plain(5, EXTENT))))
+
+
+def numbered(known: dict[bytes, int], one: bytes) -> int:
+    """The number of one thing among those that are known, to which it belongs from then on."""
+    return known.setdefault(one, len(known))
 
 
 def packed(data: bytes) -> bytes:

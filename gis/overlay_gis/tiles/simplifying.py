@@ -22,6 +22,8 @@ from .shaping import counting, spread
 # How often chains get points back before all do.
 TRIES = 12
 
+Points = tuple[Numbers, Numbers, Numbers]  # their coordinates, and their numbers
+
 
 @dataclass(frozen=True)
 class Rings:
@@ -90,18 +92,20 @@ def left_out(
     untouched = marked[last + 1] > marked[first]
     kept = rings.fixed.copy()
     kept[spread(first[untouched], (last - first)[untouched])] = True
-    keep_far(kept, (shapes.x[rings.at], shapes.y[rings.at], numbers[rings.at]), first[~untouched], last[~untouched], tolerance)
+    points = (shapes.x[rings.at], shapes.y[rings.at], numbers[rings.at])
+    keep_far(kept, points, first[~untouched], last[~untouched], tolerance)
     lengths = gathered(kept, rings.starts)
     flat = lengths < 4
     shells = shapes.polygons[:-1]
     gone = flat | np.repeat(flat[shells], np.diff(shapes.polygons))
     kept &= ~np.repeat(gone, np.diff(rings.starts))
     places = rings.at[kept]
-    made = Columns(shapes.x[places], shapes.y[places], offsets(gathered(kept, rings.starts)), shapes.polygons, shapes.features, shapes.ids)
+    starts = offsets(gathered(kept, rings.starts))
+    made = Columns(shapes.x[places], shapes.y[places], starts, shapes.polygons, shapes.features, shapes.ids)
     return made.of_rings(~gone), places
 
 
-def keep_far(kept: Mask, points: tuple[Numbers, Numbers, Numbers], first: Numbers, last: Numbers, tolerance: float) -> None:
+def keep_far(kept: Mask, points: Points, first: Numbers, last: Numbers, tolerance: float) -> None:
     """Marks the points of chains that have to be kept; `points` are the coordinates and the numbers of
     all points, and a chain has those from its first place to its last one."""
     while len(first):
@@ -112,7 +116,7 @@ def keep_far(kept: Mask, points: tuple[Numbers, Numbers, Numbers], first: Number
         first, last = np.concatenate((first[is_far], place[is_far])), np.concatenate((place[is_far], last[is_far]))
 
 
-def farthest(points: tuple[Numbers, Numbers, Numbers], first: Numbers, last: Numbers, tolerance: float) -> tuple[Numbers, Mask]:
+def farthest(points: Points, first: Numbers, last: Numbers, tolerance: float) -> tuple[Numbers, Mask]:
     """For each chain, which has a point between its ends, the place of the one that is farthest from
     the straight line between these, and whether that is beyond the tolerance."""
     x, y, numbers = points
@@ -147,7 +151,8 @@ class Faults:
         edge = edges_of(made, np.arange(len(made.x))).places
         left, right = (made.x[edge + k] for k in (0, 1))
         top, bottom = (made.y[edge + k] for k in (0, 1))
-        begin, end = np.searchsorted(x, np.minimum(left, right) - 1), np.searchsorted(x, np.maximum(left, right) + 1, "right")
+        begin = np.searchsorted(x, np.minimum(left, right) - 1)
+        end = np.searchsorted(x, np.maximum(left, right) + 1, "right")
         spot, at = spread(begin, end - begin), np.repeat(np.arange(len(edge)), end - begin)
         hit = (y[spot] >= np.minimum(top, bottom)[at] - 1) & (y[spot] <= np.maximum(top, bottom)[at] + 1)
         found = edge[np.unique(at[hit])]
@@ -166,8 +171,7 @@ def faults_of(name: str, made: Columns[Numbers]) -> Faults:
     wanted, found = edges_of(made, numbers[: len(made.x)]), edges_of(rows.shapes, numbers[len(made.x) :])
     lost = wanted.places[~np.isin(wanted.pairs, found.pairs)]
     new = found.places[~np.isin(found.pairs, wanted.pairs)]
-    x, y = (
-        np.concatenate((getattr(double, side), getattr(unlike, side), *(getattr(held, side)[places + k] for held, places in ((made, lost), (rows.shapes, new)) for k in (0, 1))))
-        for side in "xy"
-    )
+    lost, new = np.concatenate((lost, lost + 1)), np.concatenate((new, new + 1))
+    x = np.concatenate((double.x, unlike.x, made.x[lost], rows.shapes.x[new]))
+    y = np.concatenate((double.y, unlike.y, made.y[lost], rows.shapes.y[new]))
     return Faults(x, y, bool(overlaps.any()))

@@ -18,6 +18,9 @@ EXTENT = 4096
 GREATEST = 22  # the greatest zoom
 
 
+Places = frozenset[tuple[int, int]]  # tiles of a zoom, by their columns and rows
+
+
 class Tile(NamedTuple):
     """A tile by its zoom, its column and its row."""
 
