@@ -56,6 +56,7 @@ from ._calls import CALLS, Operation
 from ._edges import Edge
 from ._faults import GeometryError, OutOfMemory, Refusal, Refused
 from ._grid import Origin, Unit
+from ._library import PROVED
 from ._measuring import LayerMeasures, Measured
 from ._reading import COVERED, Reading, is_covered
 from ._signatures import AnyText, Frame, OnLayers, Text, measuring, on_edges, on_faces, on_pairs, overlaying
@@ -87,6 +88,9 @@ __all__ = [
 ]
 
 __version__ = "1.0.0"
+
+# False in a wheel of `python/build --unproved` alone.
+__proved__ = PROVED
 
 # Exceptions are pickled and told of by the names that users import.
 for _public in (Edge, Face, GeometryError, LayerMeasures, Measured, Operation, OutOfMemory, Refusal, Refused, Row):

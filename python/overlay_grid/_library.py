@@ -1,4 +1,4 @@
-"""The proved library by ctypes: its calls, their answers and the numbers of their statuses, as include/overlay.h has them."""
+"""The library by ctypes: its calls, their answers and the numbers of their statuses, as include/overlay.h has them."""
 
 from __future__ import annotations
 
@@ -165,3 +165,6 @@ def _opened() -> ctypes.CDLL:
 
 
 library = _opened()
+
+# Whether it is the proved library; the other one, of python/build --unproved, has a call that says so.
+PROVED = not hasattr(library, "overlay_unproved")
