@@ -30,7 +30,7 @@
 #include <string.h>
 
 /* The release that this header came with. */
-#define OVERLAY_VERSION "1.0.0"
+#define OVERLAY_VERSION "2.0.0"
 
 /* The version of the calls that are declared here. Programs that may meet another library compare overlay_version() with it. */
 #define OVERLAY_CALLS_VERSION 10u

@@ -6,4 +6,4 @@ reads them, `program` runs it, `output` writes a layer. All of it works on whole
 has a module of its own.
 """
 
-__version__ = "1.0.0"
+__version__ = "2.0.0"

@@ -87,7 +87,7 @@ __all__ = [
     "union",
 ]
 
-__version__ = "1.0.0"
+__version__ = "2.0.0"
 
 # False in a wheel of `python/build --unproved` alone.
 __proved__ = PROVED

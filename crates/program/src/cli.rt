@@ -71,7 +71,7 @@ Exit status: 0 answered, 1 a file, the output or memory failed, 2 command line n
 
 Example: overlay intersection parcels.wkt zones.wkt > common.wkt
 
-Version 1.0.0";
+Version 2.0.0";
 
 pub(crate) fn word_arg<'a>(alloc: Global) -> Arg<'a>
     ensures rule { rule_of result ≡ word_rule }

@@ -57,7 +57,7 @@ Exit status: 0 answered, 1 a file, the output or memory failed, 2 command line n
 
 Example: overlay intersection parcels.wkt zones.wkt > common.wkt
 
-Version 1.0.0
+Version 2.0.0
 ";
 
 /// What help prints of faces.
@@ -107,7 +107,7 @@ Exit status: 0 answered, 1 a file, the output or memory failed, 2 command line n
 
 Example: overlay intersection parcels.wkt zones.wkt > common.wkt
 
-Version 1.0.0
+Version 2.0.0
 ";
 
 const FAILED: Words = Words::Text("overlay: 11 write failed\n");
