@@ -1,12 +1,13 @@
 //! Overlay of polygon layers: the program, over the machine's files and its standard streams.
 #![tactic(auto)]
 
-use program::{Disk, Stream, drive_process};
+use program::{Disk, Machine, ProcessWords, Stream, drive_process};
 use std::process::ExitCode;
 
 fn main(rt: HostRuntime) -> ExitCode {
+    let words = ProcessWords::new(&rt);
+    let mut files = Disk::new(Machine::new(&rt));
     let mut out = Stream::new(rt.stdout());
     let mut err = Stream::new(rt.stderr());
-    let mut files = Disk::new(&rt);
-    ExitCode::from(drive_process(&rt, &mut files, &mut out, &mut err))
+    ExitCode::from(drive_process(&rt, &words, &mut files, &mut out, &mut err))
 }

@@ -4,6 +4,7 @@ use Rattle.std.specs.declared.alloc.Global.{Global}
 use Rattle.clap.specs.Words.{Text}
 use Rattle.engine.specs.Faces.{RunsFaces}
 use Rattle.layers.specs.FacesRefusals.{faces_limits}
+use Rattle.layers.specs.Refusals.{text_limit}
 use Rattle.engine.specs.FaceWords.{faces_report_of}
 use Rattle.layers.specs.FaultWords.{layer_name}
 use Rattle.results.specs.Sinks.{SinkState}
@@ -73,13 +74,13 @@ DoesFaces loads out_state err_state files files' out out' err err' request statu
     ⊎ ((texts : List (List ℕ)) × AreLoadedInTurn loads files (layer_names request) texts files' × DoesFacesOn out_state err_state out out' err err' request texts status)
 
 -- a command line of `faces` is done: what it asks for is done; or it is told why it isn't accepted, and nothing is loaded
-abbrev pub DoesFacesLine : {F O E : Type 0} → Loads F → (O → SinkState) → (E → SinkState) → F → F → O → O → E → E → List Text → ℕ → Type 0
+abbrev pub DoesFacesLine : {F O E : Type 0} → (ℕ → Loads F) → (O → SinkState) → (E → SinkState) → F → F → O → O → E → E → List Text → ℕ → Type 0
 DoesFacesLine loads out_state err_state files files' out out' err err' words status =
-    ((request : FacesRequest) × IsFacesAskedBy words request × DoesFaces loads out_state err_state files files' out out' err err' request status)
+    ((request : FacesRequest) × IsFacesAskedBy words request × DoesFaces (loads (text_limit (limit_of request.segments))) out_state err_state files files' out out' err err' request status)
     ⊎ ((fault : CliFault) × IsFacesRefusalOf words fault × (files' ≡ files) × TellsLine out_state err_state out out' err err' fault status)
 
 -- any command line is done
-pub record DoesAnyLine {F O E : Type 0} (loads : Loads F) (out_state : O → SinkState) (err_state : E → SinkState) (files files' : F) (out out' : O) (err err' : E) (words : List Text) (status : ℕ) : Type 0 where
+pub record DoesAnyLine {F O E : Type 0} (loads : ℕ → Loads F) (out_state : O → SinkState) (err_state : E → SinkState) (files files' : F) (out out' : O) (err err' : E) (words : List Text) (status : ℕ) : Type 0 where
   pub of_faces : asks_for_faces words ≡ true → DoesFacesLine loads out_state err_state files files' out out' err err' words status
   pub of_noded : asks_for_faces words ≡ false → asks_for_noded words ≡ true → DoesNodedLine loads out_state err_state files files' out out' err err' words status
   pub of_two_layers : asks_for_faces words ≡ false → asks_for_noded words ≡ false → DoesLine loads out_state err_state files files' out out' err err' words status

@@ -6,3 +6,5 @@ pub mod FacesProgram
 pub mod Loading
 pub mod NodedLine
 pub mod NodedProgram
+pub mod Printing
+pub mod Process

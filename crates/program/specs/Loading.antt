@@ -1,5 +1,5 @@
 -- What is loaded of files (own).
-use Rattle.std.specs.Prelude.{◌≡◌, ◌⊎◌, ℕ, zero, suc, List, [], ◌∷◌, ◌++◌, Result, Ok, Err, take}
+use Rattle.std.specs.Prelude.{◌≡◌, ◌⊎◌, ◌+◌, ℕ, zero, suc, List, [], ◌∷◌, ◌++◌, Option, Result, Ok, Err, IfSome, take}
 use Rattle.clap.specs.Words.{Text}
 use Rattle.program.specs.declared.files.LoadFault.{LoadFault}
 use Rattle.program.specs.declared.files.LoadFault.TheVariants.{Memory}
@@ -7,6 +7,12 @@ use Rattle.program.specs.declared.files.LoadFault.TheVariants.{Memory}
 -- how files are loaded: the files before, a name, what is answered, and the files after
 abbrev pub Loads : Type 0 → Type 1
 Loads F = F → Text → Result (List ℕ) LoadFault → F → Type 0
+
+-- the bytes are those of the file that a folder opens by this name, where it tells its bytes, and the limit of a text is this:
+-- all of them, or where there are more than one past the limit, the first ones up to there
+abbrev pub IsReadOf : {F R : Type 0} → (F → Text → R → Type 0) → (R → Option (List ℕ)) → F → Text → ℕ → List ℕ → Type 0
+IsReadOf {F} {R} opens remaining folder name longest bytes =
+    (file : R) × opens folder name file × IfSome (remaining file) (λ all. bytes ≡ take (longest + 1) all)
 
 -- the files of these names are loaded, each once and in their order, and these are their texts
 abbrev pub AreLoadedInTurn : {F : Type 0} → Loads F → F → List Text → List (List ℕ) → F → Type 0

@@ -5,6 +5,7 @@ use Rattle.results.specs.Sinks.{SinkState}
 use Rattle.edge_test.specs.Tested.{IsTextTested}
 use Rattle.edge_test.specs.Words.{status_of, text_fault_words}
 use Rattle.edge_test.specs.declared.fault.TextFault.{TextFault}
+use Rattle.edge_test.specs.declared.text.TheConstants.{LONGEST_TEXT}
 use Rattle.program.specs.Loading.{Loads}
 use Rattle.program.specs.NodedLine.{IsNodedAskedBy, IsNodedRefusalOf}
 use Rattle.program.specs.Program.{EndsUnread, IsSent, Shows, TellsLine, TellsMemory}
@@ -38,7 +39,7 @@ DoesNoded loads out_state err_state files files' out out' err err' request statu
     ⊎ ((text : List ℕ) × (r : Result (Unit {0}) TextFault) × loads files request.edges.now (Ok text) files' × IsTextTested request.workers text r × TellsTested out_state err_state out out' err err' r status)
 
 -- a command line of `noded` is done: what it asks for is done; or it is told why it isn't accepted, and nothing is loaded
-abbrev pub DoesNodedLine : {F O E : Type 0} → Loads F → (O → SinkState) → (E → SinkState) → F → F → O → O → E → E → List Text → ℕ → Type 0
+abbrev pub DoesNodedLine : {F O E : Type 0} → (ℕ → Loads F) → (O → SinkState) → (E → SinkState) → F → F → O → O → E → E → List Text → ℕ → Type 0
 DoesNodedLine loads out_state err_state files files' out out' err err' words status =
-    ((request : NodedRequest) × IsNodedAskedBy words request × DoesNoded loads out_state err_state files files' out out' err err' request status)
+    ((request : NodedRequest) × IsNodedAskedBy words request × DoesNoded (loads LONGEST_TEXT) out_state err_state files files' out out' err err' request status)
     ⊎ ((fault : CliFault) × IsNodedRefusalOf words fault × (files' ≡ files) × TellsLine out_state err_state out out' err err' fault status)

@@ -14,7 +14,7 @@ use Rattle.geom.specs.declared.fault.Part.TheVariants.{Run}
 use Rattle.geom.specs.declared.fault.RunFault.{RunFault}
 use Rattle.geom.specs.declared.op.Op.{Op}
 use Rattle.engine.specs.Runs.{AreEdgesWrittenWithin, RunsWithin}
-use Rattle.layers.specs.Refusals.{segment_limit}
+use Rattle.layers.specs.Refusals.{segment_limit, text_limit}
 use Rattle.engine.specs.Results.{IsResultWrittenWithin}
 use Rattle.results.specs.Sinks.{SentAll, SentPart, SinkState}
 use Rattle.results.specs.Texts.{report_of}
@@ -218,7 +218,7 @@ Does {F} loads out_state err_state files files' out out' err err' request status
     ⊎ ((a : List ℕ) × (between : F) × loads files request.a.now (Ok a) between × DoesWithB loads out_state err_state between files' out out' err err' request a status)
 
 -- a command line is done: what it asks for is done; or it is told why it isn't accepted, and nothing is loaded
-abbrev pub DoesLine : {F O E : Type 0} → Loads F → (O → SinkState) → (E → SinkState) → F → F → O → O → E → E → List Text → ℕ → Type 0
+abbrev pub DoesLine : {F O E : Type 0} → (ℕ → Loads F) → (O → SinkState) → (E → SinkState) → F → F → O → O → E → E → List Text → ℕ → Type 0
 DoesLine loads out_state err_state files files' out out' err err' words status =
-    ((request : Request) × IsAskedBy words request × Does loads out_state err_state files files' out out' err err' request status)
+    ((request : Request) × IsAskedBy words request × Does (loads (text_limit (limit_of request.segments))) out_state err_state files files' out out' err err' request status)
     ⊎ ((fault : CliFault) × IsRefusalOf words fault × (files' ≡ files) × TellsLine out_state err_state out out' err err' fault status)

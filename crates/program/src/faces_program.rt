@@ -3,7 +3,8 @@
 ghost use Rattle.std.specs.Prelude.{ℕ, ◌≡◌, ◌⊎◌, ◌<◌, ◌≤◌, IfErr, IfOk, MatchResult, length, map, string_bytes};
 ghost use Rattle.program.specs.Loading.{AreLoadedInTurn, AreNotAllLoaded, IsLoadedNext, IsNotLoadedNext};
 ghost use Rattle.program.specs.FacesProgram.{DoesFaces, DoesFacesLine, PerformsFaces, RunsFacesFor, ShowsFacesReport, faces_limits_of, unread_line};
-ghost use Rattle.program.specs.Program.{TellsFacesFault, TellsFile, TellsMemory};
+ghost use Rattle.layers.specs.Refusals.{text_limit};
+ghost use Rattle.program.specs.Program.{TellsFacesFault, TellsFile, TellsMemory, limit_of};
 
 use crate::asked::{CliFault, FacesRequest};
 use crate::faces_cli::faces_request;
@@ -59,7 +60,7 @@ fn answer<R: Threads + Wait + Sync, F: Files, O: Sink, E: Sink>(
     requires out { (O.state out.old).failed < u64.MAX }
     requires err { (E.state err.old).failed < u64.MAX }
     requires few { length asked.now.layers.items ≤ 64 }
-    ensures { DoesFaces F.loads O.state E.state files.old files.new out.old out.new err.old err.new asked.now result }
+    ensures { DoesFaces (F.loads (text_limit (limit_of asked.now.segments))) O.state E.state files.old files.new out.old out.new err.old err.new asked.now result }
 {
     let longest = text_limit(faces_limits_of(asked.segments).segments);
     let texts = match load_all(alloc, longest, &asked.layers, files) {
@@ -84,7 +85,7 @@ fn load_all<F: Files>(
     files: &mut F,
 ) -> Result<Vec<Vec<u8>>, Unread>
     requires { length names.now ≤ 64 }
-    ensures { MatchResult result (λ texts. AreLoadedInTurn F.loads files.old (map (λ n. n.now) names.now) (map (λ t. t.items) texts.items) files.new) (λ unread. AreNotAllLoaded F.loads files.old (map (λ n. n.now) names.now) unread.number unread.fault files.new) }
+    ensures { MatchResult result (λ texts. AreLoadedInTurn (F.loads longest) files.old (map (λ n. n.now) names.now) (map (λ t. t.items) texts.items) files.new) (λ unread. AreNotAllLoaded (F.loads longest) files.old (map (λ n. n.now) names.now) unread.number unread.fault files.new) }
 {
     let mut texts = Vec::new(alloc);
     for number in 0..names.len() {
@@ -106,9 +107,9 @@ fn load_next<F: Files>(
     files: &mut F,
     texts: &mut Vec<Vec<u8>>,
 ) -> Result<(), LoadFault>
-    ensures { MatchResult result (λ _. IsLoadedNext F.loads files.old name.now (map (λ t. t.items) texts.old.items) (map (λ t. t.items) texts.new.items) files.new) (λ fault. IsNotLoadedNext F.loads files.old name.now fault files.new) }
+    ensures { MatchResult result (λ _. IsLoadedNext (F.loads longest) files.old name.now (map (λ t. t.items) texts.old.items) (map (λ t. t.items) texts.new.items) files.new) (λ fault. IsNotLoadedNext (F.loads longest) files.old name.now fault files.new) }
 {
-    let bytes = files.load_within(alloc, longest, name)?;
+    let bytes = files.load(alloc, longest, name)?;
     match texts.push(bytes) {
         Ok(()) => Ok(()),
         Err(_) => Err(LoadFault::Memory),

@@ -1,14 +1,10 @@
 //! Where layer texts are read.
 
-ghost use Rattle.std.specs.Prelude.{◌≤◌, ◌+◌, IfOk, MatchResult, length, max};
+ghost use Rattle.std.specs.Prelude.{◌≡◌, ◌≤◌, ◌+◌, IfOk, IfSome, MatchResult, length, take};
 
 use std::alloc::Allocator;
 use std::io::{ErrorKind, Read};
 use std::{fs, io, rt};
-use wkt::LENGTH_LIMIT;
-
-/// What is read of a file at most, in bytes, where no limit is given: one past the limit of a layer text.
-pub const READ_LIMIT: usize = LENGTH_LIMIT as usize + 1;
 
 /// Why a file is not read.
 #[derive(Clone, Copy, Debug, PartialEq, Eq)]
@@ -21,79 +17,112 @@ pub enum LoadFault {
 
 /// Where files are read by their names.
 pub trait Files {
+    ghost use Rattle.std.specs.Prelude.{ℕ};
     ghost use Rattle.program.specs.Loading.{Loads};
 
-    // the files before, a name, what is answered, and the files after: nothing is known of them where an impl keeps this
-    ghost loads: { Loads Self } = { λ _ _ _ _. Unit {0} };
+    // the most bytes that a text may have, the files before, a name, what is answered, and the files after: nothing is known of them
+    // where an impl keeps this
+    ghost loads: { ℕ → Loads Self } = { λ _ _ _ _ _. Unit {0} };
 
-    /// A file's bytes, to its end or to one byte past the limit.
-    fn load<A: Allocator>(&mut self, alloc: A, name: &str) -> Result<Vec<u8, A>, LoadFault>
-        ensures short { IfOk result (λ bytes. length bytes.items ≤ READ_LIMIT) }
-        ensures loaded { MatchResult result (λ bytes. loads self.old name.now (Ok bytes.items) self.new) (λ fault. loads self.old name.now (Err fault) self.new) };
-
-    /// The same where a layer text may have so many bytes: to one byte past that. An impl that keeps this reads no further than `load`.
-    fn load_within<A: Allocator>(
+    /// A file's bytes, where a layer text may have so many: to its end, or to one byte past that.
+    fn load<A: Allocator>(
         &mut self,
         alloc: A,
         longest: u32,
         name: &str,
     ) -> Result<Vec<u8, A>, LoadFault>
-        ensures short { IfOk result (λ bytes. length bytes.items ≤ max READ_LIMIT (longest + 1)) }
-        ensures loaded { MatchResult result (λ bytes. loads self.old name.now (Ok bytes.items) self.new) (λ fault. loads self.old name.now (Err fault) self.new) }
-    {
-        self.load(alloc, name)
-    }
+        ensures short { IfOk result (λ bytes. length bytes.items ≤ longest + 1) }
+        ensures loaded { MatchResult result (λ bytes. loads longest self.old name.now (Ok bytes.items) self.new) (λ fault. loads longest self.old name.now (Err fault) self.new) };
+}
+
+/// What opens files by their names.
+pub trait Folder {
+    ghost use Rattle.std.specs.Prelude.{ℕ, List};
+
+    type File: Read + Drop;
+
+    // the folder, a name, and the file that it opens: nothing is known of that where an impl keeps this
+    ghost opens: { Self → List ℕ → Self.File → Type 0 } = { λ _ _ _. Unit {0} };
+
+    /// The file of this name.
+    fn open(&self, name: &str) -> io::Result<Self::File>
+        ensures { IfOk result (λ file. opens self.now name.now file) };
 }
 
 /// The machine's files. No contract says what they hold.
 #[derive(Drop)]
-pub struct Disk<'a, R> {
+pub struct Machine<'a, R> {
     rt: &'a R,
 }
 
-impl<'a, R: rt::Files + AllocGlobal> Disk<'a, R> {
-    /// The files that a runtime reads.
-    pub fn new(rt: &'a R) -> Disk<'a, R> {
-        Disk { rt }
-    }
-
-    fn read<A: Allocator>(&self, alloc: A, most: usize, name: &str) -> io::Result<Vec<u8, A>> {
-        let mut bytes = Vec::new(alloc);
-        let mut file = fs::open(self.rt, name)?.take(most as u64);
-        io::copy(&mut file, &mut bytes)?;
-        Ok(bytes)
-    }
-
-    fn load_at_most<A: Allocator>(
-        &self,
-        alloc: A,
-        most: usize,
-        name: &str,
-    ) -> Result<Vec<u8, A>, LoadFault>
-        ensures { IfOk result (λ bytes. length bytes.items ≤ most) }
-    {
-        match self.read(alloc, most, name) {
-            Ok(mut bytes) => {
-                bytes.truncate(most);
-                Ok(bytes)
-            }
-            Err(error) if error.kind() == ErrorKind::OutOfMemory => Err(LoadFault::Memory),
-            Err(_) => Err(LoadFault::Unreadable),
-        }
+impl<'a, R: rt::Files> Machine<'a, R> {
+    /// The files that a runtime opens.
+    pub fn new(rt: &'a R) -> Machine<'a, R> {
+        Machine { rt }
     }
 }
 
-impl<R: rt::Files + AllocGlobal> Files for Disk<'_, R> {
-    fn load<A: Allocator>(&mut self, alloc: A, name: &str) -> Result<Vec<u8, A>, LoadFault> {
-        self.load_at_most(alloc, READ_LIMIT, name)
+impl<R: rt::Files> Folder for Machine<'_, R> {
+    type File = R::File;
+
+    fn open(&self, name: &str) -> io::Result<R::File> {
+        fs::open(self.rt, name)
+    }
+}
+
+/// The files of a folder, each read from its start.
+#[derive(Drop)]
+pub struct Disk<F> {
+    folder: F,
+}
+
+impl<F: Folder> Disk<F> {
+    ghost use Rattle.program.specs.Loading.{IsReadOf};
+
+    /// The files that a folder opens.
+    pub fn new(folder: F) -> Disk<F> {
+        Disk { folder }
     }
 
-    fn load_within<A: Allocator>(
+    fn read<A: Allocator>(&self, alloc: A, longest: u32, name: &str) -> io::Result<Vec<u8, A>>
+        ensures short { IfOk result (λ bytes. length bytes.items ≤ longest + 1) }
+        ensures read { IfOk result (λ bytes. IsReadOf F.opens F.File.remaining self.now.folder name.now longest bytes.items) }
+    {
+        read_front(alloc, longest as usize + 1, self.folder.open(name)?)
+    }
+}
+
+/// The first bytes that a reader gives: all of them, or so many.
+fn read_front<A: Allocator, R: Read + Drop>(
+    alloc: A,
+    most: usize,
+    reader: R,
+) -> io::Result<Vec<u8, A>>
+    ensures short { IfOk result (λ bytes. length bytes.items ≤ most) }
+    ensures front { IfOk result (λ bytes. IfSome (R.remaining reader) (λ all. bytes.items ≡ take most all)) }
+{
+    let mut bytes = Vec::new(alloc);
+    let mut front = reader.take(most as u64);
+    io::copy(&mut front, &mut bytes)?;
+    bytes.truncate(most);
+    Ok(bytes)
+}
+
+impl<F: Folder> Files for Disk<F> {
+    ghost use Rattle.program.specs.Loading.{IsReadOf};
+
+    ghost loads = { λ longest old name answer new. (new ≡ old) × IfOk answer (IsReadOf F.opens F.File.remaining old.folder name longest) };
+
+    fn load<A: Allocator>(
         &mut self,
         alloc: A,
         longest: u32,
         name: &str,
     ) -> Result<Vec<u8, A>, LoadFault> {
-        self.load_at_most(alloc, longest as usize + 1, name)
+        match self.read(alloc, longest, name) {
+            Ok(bytes) => Ok(bytes),
+            Err(error) if error.kind() == ErrorKind::OutOfMemory => Err(LoadFault::Memory),
+            Err(_) => Err(LoadFault::Unreadable),
+        }
     }
 }

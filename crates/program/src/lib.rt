@@ -18,11 +18,13 @@ mod noded_cli;
 mod noded_program;
 mod program;
 mod stream;
+mod words;
 
 pub use asked::{CliFault, Command, FacesRequest, Request};
 pub use cli::request;
 pub use faces_cli::faces_request;
-pub use files::{Disk, Files, LoadFault, READ_LIMIT};
+pub use files::{Disk, Files, Folder, LoadFault, Machine};
 pub use noded_cli::{NodedRequest, noded_request};
 pub use program::{drive, drive_process};
-pub use stream::{ErrSink, StdSink, Stream};
+pub use stream::{ErrSink, Printer, StdSink, Stream};
+pub use words::{ProcessWords, Words, WordsFault};

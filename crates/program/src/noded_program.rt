@@ -46,9 +46,9 @@ fn answer<R: Threads + Wait + Sync, F: Files, O: Sink, E: Sink>(
 ) -> u8
     requires out { (O.state out.old).failed < u64.MAX }
     requires err { (E.state err.old).failed < u64.MAX }
-    ensures { DoesNoded F.loads O.state E.state files.old files.new out.old out.new err.old err.new asked.now result }
+    ensures { DoesNoded (F.loads LONGEST_TEXT) O.state E.state files.old files.new out.old out.new err.old err.new asked.now result }
 {
-    let text = match files.load_within(alloc, LONGEST_TEXT, asked.edges) {
+    let text = match files.load(alloc, LONGEST_TEXT, asked.edges) {
         Ok(bytes) => bytes,
         Err(fault) => return tell_file(fault, b"overlay: EDGES: cannot read\n", err),
     };

@@ -1,7 +1,9 @@
 //! The program, over files and sinks.
 
 ghost use Rattle.std.specs.Prelude.{ℕ, ◌≡◌, ◌<◌, IfErr, map};
+ghost use Rattle.layers.specs.Refusals.{text_limit};
 ghost use Rattle.program.specs.FacesProgram.{DoesAnyLine};
+ghost use Rattle.program.specs.Process.{DoesProcess};
 ghost use Rattle.program.specs.Program.{Does, DoesByParity, DoesUnmeasured, IsSent, limit_of, Performs, RunsFor, Shows, ShowsReport, TellsFault, TellsFile, TellsLine, TellsMemory};
 
 use crate::asked::{CliFault, Command, Request, operation_covered, operation_measured};
@@ -13,6 +15,7 @@ use crate::files::{Files, LoadFault};
 use crate::measured_program::answer_measured;
 use crate::noded_cli::is_for_noded;
 use crate::noded_program::drive_noded;
+use crate::words::{Words, WordsFault};
 use engine::{
     Limits, Plan, Report, Sink, edges_within, fitting_side, line, report_text, run_within, status,
     text_limit, write_all,
@@ -21,9 +24,6 @@ use geom::{Fault, RunFault};
 use grid::DEFAULT_SIDE;
 use std::alloc::Global;
 use std::convert::AsStr;
-use std::env;
-use std::io::ErrorKind;
-use std::rt::Env;
 use std::sync::Wait;
 use std::thread::Threads;
 use tile_book::OpenGate;
@@ -72,24 +72,22 @@ pub fn drive<R: Threads + Wait + Sync, S: AsStr, F: Files, O: Sink, E: Sink>(
     }
 }
 
-/// Does what the words of the process ask for. Words that are no text are a command line that isn't accepted.
-pub fn drive_process<R: Env + AllocGlobal + Threads + Wait + Sync, F: Files, O: Sink, E: Sink>(
+/// Does what the words of a process ask for. Words that are no text are a command line that isn't accepted.
+pub fn drive_process<R: AllocGlobal + Threads + Wait + Sync, W: Words, F: Files, O: Sink, E: Sink>(
     rt: &R,
+    words: &W,
     files: &mut F,
     out: &mut O,
     err: &mut E,
 ) -> u8
     requires out { (O.state out.old).failed < u64.MAX }
     requires err { (E.state err.old).failed < u64.MAX }
+    ensures { DoesProcess (W.told words.now) F.loads O.state E.state files.old files.new out.old out.new err.old err.new result }
 {
-    let words = match env::args(rt) {
-        Ok(words) => words.collect::<Vec<String>>(rt.alloc()),
-        Err(error) if error.kind() == ErrorKind::OutOfMemory => return tell_no_memory(err),
-        Err(_) => return tell(err, b"overlay: a word is not UTF-8\n", NOT_ACCEPTED),
-    };
-    match words {
+    match words.words(rt.alloc()) {
         Ok(words) => drive(rt, rt.alloc(), words.as_slice(), files, out, err),
-        Err(_) => tell_no_memory(err),
+        Err(WordsFault::NoText) => tell(err, b"overlay: a word is not UTF-8\n", NOT_ACCEPTED),
+        Err(WordsFault::Memory) => tell_no_memory(err),
     }
 }
 
@@ -104,14 +102,14 @@ fn answer<R: Threads + Wait + Sync, F: Files, O: Sink, E: Sink>(
 ) -> u8
     requires out { (O.state out.old).failed < u64.MAX }
     requires err { (E.state err.old).failed < u64.MAX }
-    ensures { Does F.loads O.state E.state files.old files.new out.old out.new err.old err.new asked.now result }
+    ensures { Does (F.loads (text_limit (limit_of asked.now.segments))) O.state E.state files.old files.new out.old out.new err.old err.new asked.now result }
 {
     let longest = text_limit(limits_of(asked.segments).segments);
-    let a = match files.load_within(alloc, longest, asked.a) {
+    let a = match files.load(alloc, longest, asked.a) {
         Ok(bytes) => bytes,
         Err(fault) => return tell_file(fault, b"overlay: A: cannot read\n", err),
     };
-    let b = match files.load_within(alloc, longest, asked.b) {
+    let b = match files.load(alloc, longest, asked.b) {
         Ok(bytes) => bytes,
         Err(fault) => return tell_file(fault, b"overlay: B: cannot read\n", err),
     };

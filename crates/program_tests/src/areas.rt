@@ -171,13 +171,13 @@ const REFUSED: [Case; 15] = [
         &["faces", "square", "--areas"],
         2,
         "",
-        Words::Begins("error: "),
+        Words::Begins("error: unexpected argument '--areas' found\n"),
     ),
     (
         &["union", "square", "other", "--areas=1"],
         2,
         "",
-        Words::Begins("error: "),
+        Words::Begins("error: unexpected value '1' for '--areas' found; no more were expected\n"),
     ),
     // Refusals are told in the words of the other runs.
     (

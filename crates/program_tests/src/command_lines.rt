@@ -24,9 +24,6 @@ const SQUARE_OF_THREE: &str = "32\t\t1\t\tMULTIPOLYGON (((0 0, 4 0, 4 4, 0 4, 0 
 const WHOLE_FACE: &str =
     "576460752303423488\t1\tMULTIPOLYGON (((-268435456 -268435456, 268435456 -268435456, 268435456 268435456, -268435456 268435456, -268435456 -268435456)))\n";
 
-/// How the parser begins what it says of a line.
-const PARSER: Words = Words::Begins("error: ");
-
 const CASES: [Case; 38] = [
     (
         &["intersection", "square", "other", "--tile=16", "--report"],
@@ -96,32 +93,91 @@ const CASES: [Case; 38] = [
         Words::Text("overlay: unknown command\n"),
     ),
     // The command line goes before the command word.
-    (&["foo", "square", "other", "--tile", "x"], 2, "", PARSER),
-    (&["foo", "square"], 2, "", PARSER),
-    (&[], 2, "", PARSER),
-    (&["edges", "square", "other", "more"], 2, "", PARSER),
-    (&["edges", "square", "other", "--side", "16"], 2, "", PARSER),
-    (&["edges", "square", "other", "--tile=-1"], 2, "", PARSER),
+    (
+        &["foo", "square", "other", "--tile", "x"],
+        2,
+        "",
+        Words::Begins("error: invalid value 'x' for '--tile <N>': invalid digit found in string\n"),
+    ),
+    (
+        &["foo", "square"],
+        2,
+        "",
+        Words::Begins("error: the following required arguments were not provided:\n  <B>\n"),
+    ),
+    (
+        &[],
+        2,
+        "",
+        Words::Begins(
+            "error: the following required arguments were not provided:\n  <command>\n  <A>\n  <B>\n",
+        ),
+    ),
+    (
+        &["edges", "square", "other", "more"],
+        2,
+        "",
+        Words::Begins("error: unexpected argument 'more' found\n"),
+    ),
+    (
+        &["edges", "square", "other", "--side", "16"],
+        2,
+        "",
+        Words::Begins("error: unexpected argument '--side' found\n"),
+    ),
+    (
+        &["edges", "square", "other", "--tile=-1"],
+        2,
+        "",
+        Words::Begins("error: invalid value '-1' for '--tile <N>': -1 is not in 0..=4294967295\n"),
+    ),
     (
         &["edges", "square", "other", "--tile", "1.5"],
         2,
         "",
-        PARSER,
+        Words::Begins(
+            "error: invalid value '1.5' for '--tile <N>': invalid digit found in string\n",
+        ),
     ),
-    (&["edges", "square", "other", "--tile="], 2, "", PARSER),
+    (
+        &["edges", "square", "other", "--tile="],
+        2,
+        "",
+        Words::Begins(
+            "error: invalid value '' for '--tile <N>': cannot parse integer from empty string\n",
+        ),
+    ),
     (
         &["edges", "square", "other", "--tile=4294967296"],
         2,
         "",
-        PARSER,
+        Words::Begins(
+            "error: invalid value '4294967296' for '--tile <N>': 4294967296 is not in 0..=4294967295\n",
+        ),
     ),
-    (&["edges", "square", "other", "--workers=-1"], 2, "", PARSER),
-    (&["edges", "square", "other", "--workers="], 2, "", PARSER),
+    (
+        &["edges", "square", "other", "--workers=-1"],
+        2,
+        "",
+        Words::Begins(
+            "error: invalid value '-1' for '--workers <N>': -1 is not in 0..=4294967295\n",
+        ),
+    ),
+    (
+        &["edges", "square", "other", "--workers="],
+        2,
+        "",
+        Words::Begins(
+            "error: invalid value '' for '--workers <N>': cannot parse integer from empty string\n",
+        ),
+    ),
     (
         &["edges", "square", "other", "--workers=4294967296"],
         2,
         "",
-        PARSER,
+        Words::Begins(
+            "error: invalid value '4294967296' for '--workers <N>': 4294967296 is not in 0..=4294967295\n",
+        ),
     ),
     (
         &[
@@ -208,14 +264,37 @@ const CASES: [Case; 38] = [
         "",
         Words::Text("overlay: B: 1 syntax at 13\n"),
     ),
-    (&["edges", "square", "other", "--segments=0"], 2, "", PARSER),
-    (&["edges", "square", "other", "--segments="], 2, "", PARSER),
-    (&["edges", "square", "other", "--segments=x"], 2, "", PARSER),
+    (
+        &["edges", "square", "other", "--segments=0"],
+        2,
+        "",
+        Words::Begins(
+            "error: invalid value '0' for '--segments <N>': 0 is not in 1..=4294967295\n",
+        ),
+    ),
+    (
+        &["edges", "square", "other", "--segments="],
+        2,
+        "",
+        Words::Begins(
+            "error: invalid value '' for '--segments <N>': cannot parse integer from empty string\n",
+        ),
+    ),
+    (
+        &["edges", "square", "other", "--segments=x"],
+        2,
+        "",
+        Words::Begins(
+            "error: invalid value 'x' for '--segments <N>': invalid digit found in string\n",
+        ),
+    ),
     (
         &["edges", "square", "other", "--segments=4294967296"],
         2,
         "",
-        PARSER,
+        Words::Begins(
+            "error: invalid value '4294967296' for '--segments <N>': 4294967296 is not in 1..=4294967295\n",
+        ),
     ),
 ];
 
@@ -323,13 +402,54 @@ const FACES: [Case; 29] = [
         "",
         Words::Text("overlay: Y: cannot read\n"),
     ),
-    (&["faces"], 2, "", PARSER),
-    (&["faces", "--report"], 2, "", PARSER),
-    (&["faces", "square", "--side", "16"], 2, "", PARSER),
-    (&["faces", "square", "--tile=x"], 2, "", PARSER),
-    (&["faces", "square", "--workers="], 2, "", PARSER),
-    (&["faces", "square", "--segments=0"], 2, "", PARSER),
-    (&["faces", "square", "--segments=4294967296"], 2, "", PARSER),
+    (
+        &["faces"],
+        2,
+        "",
+        Words::Begins("error: the following required arguments were not provided:\n  <LAYER>...\n"),
+    ),
+    (
+        &["faces", "--report"],
+        2,
+        "",
+        Words::Begins("error: the following required arguments were not provided:\n  <LAYER>...\n"),
+    ),
+    (
+        &["faces", "square", "--side", "16"],
+        2,
+        "",
+        Words::Begins("error: unexpected argument '--side' found\n"),
+    ),
+    (
+        &["faces", "square", "--tile=x"],
+        2,
+        "",
+        Words::Begins("error: invalid value 'x' for '--tile <N>': invalid digit found in string\n"),
+    ),
+    (
+        &["faces", "square", "--workers="],
+        2,
+        "",
+        Words::Begins(
+            "error: invalid value '' for '--workers <N>': cannot parse integer from empty string\n",
+        ),
+    ),
+    (
+        &["faces", "square", "--segments=0"],
+        2,
+        "",
+        Words::Begins(
+            "error: invalid value '0' for '--segments <N>': 0 is not in 1..=4294967295\n",
+        ),
+    ),
+    (
+        &["faces", "square", "--segments=4294967296"],
+        2,
+        "",
+        Words::Begins(
+            "error: invalid value '4294967296' for '--segments <N>': 4294967296 is not in 1..=4294967295\n",
+        ),
+    ),
     // The word stands before all others, and is written so.
     (
         &["Faces", "square", "other"],
@@ -409,7 +529,15 @@ const MANY: [Many; 7] = [
         2,
         Words::Text("overlay: more than 64 layers\n"),
     ),
-    ("empty", 65, 100, 2, PARSER),
+    (
+        "empty",
+        65,
+        100,
+        2,
+        Words::Begins(
+            "error: unexpected value 'empty' for '<LAYER>...' found; no more were expected\n",
+        ),
+    ),
 ];
 
 /// Whether a command line over many files is answered so, with no output.

@@ -98,13 +98,13 @@ const CASES: [Case; 23] = [
         &["faces", "overlap", "--covered"],
         2,
         "",
-        Words::Begins("error: "),
+        Words::Begins("error: unexpected argument '--covered' found\n"),
     ),
     (
         &["union", "overlap", "nothing", "--covered=1"],
         2,
         "",
-        Words::Begins("error: "),
+        Words::Begins("error: unexpected value '1' for '--covered' found; no more were expected\n"),
     ),
     // Refusals are told in the words of the other runs.
     (

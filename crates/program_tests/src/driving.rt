@@ -1,10 +1,15 @@
 //! The program driven over files and sinks in memory.
 
-use engine::MemSink;
+ghost use Rattle.std.specs.Prelude.{Some};
+
 use engine_tests::texts::{BELOW, BOW_TIE, OTHER, SQUARE, WEDGE, WHOLE};
 use geom::NoMemory;
-use program::{Files, LoadFault, READ_LIMIT, drive};
-use std::alloc::{AllocError, Allocator, Global};
+use program::{
+    Disk, Folder, Printer, Stream, Words as WordSource, WordsFault, drive, drive_process,
+};
+use std::alloc::{AllocError, Global};
+use std::io;
+use std::io::{Cursor, ErrorKind};
 use std::sync::Wait;
 use std::thread::Threads;
 
@@ -39,15 +44,29 @@ const TEXTS: [(&str, &str); 19] = [
     ),
 ];
 
+/// One byte more than a layer text may have where no limit is given.
+const LONG: usize = 268_435_457;
+
+/// A folder of files in memory.
 #[derive(Drop)]
-struct MemFiles;
+struct MemFolder {
+    alloc: Global,
+}
 
 /// So many copies of a text.
-fn copies<A: Allocator>(alloc: A, text: &str, count: u32) -> Result<Vec<u8, A>, AllocError> {
+fn copies(alloc: Global, text: &str, count: u32) -> Result<Vec<u8>, AllocError> {
     let mut bytes = Vec::new(alloc);
     for _ in 0..count {
         bytes.extend_from_slice(text.as_bytes())?;
     }
+    Ok(bytes)
+}
+
+/// A square, spaces behind it until the text is too long, and another square.
+fn parted(alloc: Global) -> Result<Vec<u8>, AllocError> {
+    let mut bytes = Vec::from_slice(alloc, SQUARE.as_bytes())?;
+    bytes.resize(LONG, b' ')?;
+    bytes.extend_from_slice(OTHER.as_bytes())?;
     Ok(bytes)
 }
 
@@ -61,24 +80,62 @@ fn text_of(name: &str) -> Option<&'static str> {
     None
 }
 
-/// The bytes of a file in memory: one that is too long, one with too many segments, or one of the texts.
-fn bytes_of<A: Allocator>(alloc: A, name: &str) -> Option<Result<Vec<u8, A>, AllocError>> {
+/// The bytes of a file in memory: of one that is too long, of one with too many segments, or of one of the texts.
+fn bytes_of(alloc: Global, name: &str) -> Option<Result<Vec<u8>, AllocError>> {
     match name {
-        "long" => Some(vec![in alloc; b' '; READ_LIMIT]),
+        "long" => Some(vec![in alloc; b' '; LONG]),
+        "parted" => Some(parted(alloc)),
         "many" => Some(copies(alloc, SQUARE, 262_145)),
         _ => text_of(name).map(|text| Vec::from_slice(alloc, text.as_bytes())),
     }
 }
 
-impl Files for MemFiles {
-    fn load<A: Allocator>(&mut self, alloc: A, name: &str) -> Result<Vec<u8, A>, LoadFault> {
-        match bytes_of(alloc, name) {
-            Some(Ok(mut bytes)) => {
-                bytes.truncate(READ_LIMIT);
-                Ok(bytes)
-            }
-            Some(Err(_)) => Err(LoadFault::Memory),
-            None => Err(LoadFault::Unreadable),
+impl Folder for MemFolder {
+    type File = Cursor<Vec<u8>>;
+
+    fn open(&self, name: &str) -> io::Result<Cursor<Vec<u8>>> {
+        match bytes_of(self.alloc, name) {
+            Some(Ok(bytes)) => Ok(Cursor::new(bytes)),
+            Some(Err(_)) => Err(io::Error::from(ErrorKind::OutOfMemory)),
+            None => Err(io::Error::from(ErrorKind::NotFound)),
+        }
+    }
+}
+
+/// Keeps what is printed, as long as there is room for it.
+#[derive(Drop)]
+pub struct Recorder {
+    bytes: Vec<u8>,
+    room: usize,
+}
+
+impl Recorder {
+    /// One with room for so many bytes.
+    pub fn new(alloc: Global, room: usize) -> Recorder {
+        Recorder {
+            bytes: Vec::new(alloc),
+            room,
+        }
+    }
+
+    /// The bytes printed.
+    pub fn bytes(&self) -> &[u8] {
+        self.bytes.as_slice()
+    }
+}
+
+impl Printer for Recorder {
+    ghost printed = { λ r. Some r.bytes.items };
+
+    fn print(&mut self, bytes: &[u8]) -> io::Result<usize> {
+        let left = self.room.saturating_sub(self.bytes.len());
+        if left == 0 {
+            return Err(io::Error::from(ErrorKind::StorageFull));
+        }
+        let count = bytes.len().min(left);
+        match self.bytes.extend_from_slice(&bytes[..count]) {
+            Ok(()) => Ok(count),
+            Err(_) => Err(io::Error::from(ErrorKind::OutOfMemory)),
         }
     }
 }
@@ -116,7 +173,12 @@ fn line_of<'a>(alloc: Global, rest: &[&'a str]) -> Result<Vec<&'a str>, NoMemory
     Ok(words)
 }
 
-/// Whether a command line behind the program's name gives this, with room for so many bytes in both sinks.
+/// Whether just this is printed.
+fn is_printed(stream: &Stream<Recorder>, told: Words) -> bool {
+    is_told(stream.printer().bytes(), told)
+}
+
+/// Whether a command line behind the program's name gives this, with room for so many bytes in both streams.
 pub fn gives<R: Threads + Wait + Sync>(
     rt: &R,
     alloc: Global,
@@ -125,8 +187,50 @@ pub fn gives<R: Threads + Wait + Sync>(
     given: Given,
 ) -> Result<bool, NoMemory> {
     let words = line_of(alloc, rest)?;
-    let mut out = MemSink::new(alloc, rooms.0)?;
-    let mut err = MemSink::new(alloc, rooms.1)?;
-    let status = drive(rt, alloc, &words, &mut MemFiles, &mut out, &mut err);
-    Ok(status == given.0 && is_told(out.bytes(), given.1) && is_told(err.bytes(), given.2))
+    let mut files = Disk::new(MemFolder { alloc });
+    let mut out = Stream::new(Recorder::new(alloc, rooms.0));
+    let mut err = Stream::new(Recorder::new(alloc, rooms.1));
+    let status = drive(rt, alloc, &words, &mut files, &mut out, &mut err);
+    Ok(status == given.0 && is_printed(&out, given.1) && is_printed(&err, given.2))
+}
+
+/// The words of a process, or why there are none.
+#[derive(Clone, Copy)]
+pub enum MemWords {
+    Line(&'static [&'static str]),
+    Fault(WordsFault),
+}
+
+fn strings_of(alloc: Global, words: &[&str]) -> Result<Vec<String>, NoMemory> {
+    let mut strings = Vec::new(alloc);
+    for word in words {
+        strings.push(String::from_str(alloc, word)?)?;
+    }
+    Ok(strings)
+}
+
+impl WordSource for MemWords {
+    fn words(&self, alloc: Global) -> Result<Vec<String>, WordsFault> {
+        match *self {
+            MemWords::Line(words) => match strings_of(alloc, words) {
+                Ok(strings) => Ok(strings),
+                Err(_) => Err(WordsFault::Memory),
+            },
+            MemWords::Fault(fault) => Err(fault),
+        }
+    }
+}
+
+/// Whether a process with these words gives this.
+pub fn process_gives<R: AllocGlobal + Threads + Wait + Sync>(
+    rt: &R,
+    words: MemWords,
+    given: Given,
+) -> bool {
+    let alloc = rt.alloc();
+    let mut files = Disk::new(MemFolder { alloc });
+    let mut out = Stream::new(Recorder::new(alloc, ROOMS.0));
+    let mut err = Stream::new(Recorder::new(alloc, ROOMS.1));
+    let status = drive_process(rt, &words, &mut files, &mut out, &mut err);
+    status == given.0 && is_printed(&out, given.1) && is_printed(&err, given.2)
 }

@@ -1,5 +1,5 @@
-//! Tests of the program over files and sinks in memory: command lines, layers that are refused, sinks of all sizes, and a
-//! stream whose writes a signal interrupts.
+//! Tests of the program over files and sinks in memory: command lines, layers that are refused, sinks of all sizes, a
+//! stream whose writes a signal interrupts, and the words of a process.
 #![tactic(auto)]
 
 #[cfg(test)]
@@ -12,6 +12,8 @@ mod covered_layers;
 mod driving;
 #[cfg(test)]
 mod noded_edges;
+#[cfg(test)]
+mod process;
 #[cfg(test)]
 mod refusals;
 #[cfg(test)]

@@ -19,12 +19,20 @@ struct OneFile<'a> {
 }
 
 impl Files for OneFile<'_> {
-    fn load<A: Allocator>(&mut self, alloc: A, name: &str) -> Result<Vec<u8, A>, LoadFault> {
+    fn load<A: Allocator>(
+        &mut self,
+        alloc: A,
+        longest: u32,
+        name: &str,
+    ) -> Result<Vec<u8, A>, LoadFault> {
         if name != "edges" {
             return Err(LoadFault::Unreadable);
         }
         match Vec::from_slice(alloc, self.text.as_bytes()) {
-            Ok(bytes) => Ok(bytes),
+            Ok(mut bytes) => {
+                bytes.truncate(longest as usize + 1);
+                Ok(bytes)
+            }
             Err(_) => Err(LoadFault::Memory),
         }
     }

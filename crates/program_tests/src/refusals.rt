@@ -10,6 +10,13 @@ use std::thread::Threads;
 /// The edges of the layer with a segment count past the limit.
 const MANY_EDGES: &str = "0 0 0 4 262145 0\n0 0 4 0 262145 0\n0 4 4 4 262145 0\n4 0 4 4 262145 0\n";
 
+/// Of two squares that overlap, as the edges and the faces of one layer.
+const PARTED_EDGES: &str =
+    "0 0 0 4 1 0\n0 0 4 0 1 0\n0 4 2 4 1 0\n2 2 2 4 1 0\n2 2 4 2 1 0\n2 4 2 6 1 0\n2 4 4 4 1 0\n2 6 6 6 1 0\n4 0 4 2 1 0\n4 2 4 4 1 0\n4 2 6 2 1 0\n6 2 6 6 1 0\n";
+
+const PARTED_FACES: &str =
+    "24\t1\tMULTIPOLYGON (((0 0, 4 0, 4 2, 2 2, 2 4, 0 4, 0 0)))\n8\t1,2\tMULTIPOLYGON (((2 2, 4 2, 4 4, 2 4, 2 2)))\n24\t2\tMULTIPOLYGON (((2 4, 4 4, 4 2, 6 2, 6 6, 2 6, 2 4)))\n";
+
 /// A command, a layer that is refused, and the lines where it is the first layer and where it is the second one.
 type RefusalRow = (&'static str, &'static str, &'static str, &'static str);
 
@@ -139,6 +146,34 @@ fn takes_a_longer_text_within_a_greater_limit(rt: HostRuntime) -> Result<(), Fai
         ),
     ] {
         let given = (0, text, Words::Text(""));
+        assert!(rt; gives(&rt, rt.alloc(), words, ROOMS, given)?, "{words:?}");
+    }
+    Ok(())
+}
+
+/// A square, and another one behind as many spaces as the longest text has bytes where no limit is given.
+#[test]
+fn reads_a_longer_text_to_its_end(rt: HostRuntime) -> Result<(), Fail> {
+    let many = "--segments=1100000";
+    let refused = Words::Text("overlay: A: 0 layer too long\n");
+    for (words, given) in [
+        (
+            ["edges", "parted", "empty", many].as_slice(),
+            (0, Words::Text(PARTED_EDGES), Words::Text("")),
+        ),
+        (
+            ["faces", "parted", many].as_slice(),
+            (0, Words::Text(PARTED_FACES), Words::Text("")),
+        ),
+        (
+            ["edges", "parted", "empty"].as_slice(),
+            (3, Words::Text(""), refused),
+        ),
+        (
+            ["faces", "parted"].as_slice(),
+            (3, Words::Text(""), refused),
+        ),
+    ] {
         assert!(rt; gives(&rt, rt.alloc(), words, ROOMS, given)?, "{words:?}");
     }
     Ok(())
