@@ -6,13 +6,14 @@
 //! 4. These are gathered: edges with their counts in both layers (`by_cells`), or edges with the features whose border they are
 //!    (`features_by_cells`).
 
-ghost use Rattle.std.specs.Prelude.{◌≡◌, ◌<◌, ◌≤◌, IfOk, length, map, sum_by};
+ghost use Rattle.std.specs.Prelude.{◌≡◌, ◌+◌, ◌<◌, ◌≤◌, IfOk, length, map, sum_by};
 ghost use Rattle.geom.specs.Rounded.{AreRounded};
 ghost use Rattle.grid.specs.Tiles.{tile_count};
 ghost use Rattle.distinct.specs.Copies.{AreCopiesRounded, all_copies};
 ghost use Rattle.linking.specs.Gathered.{AreTileNumbers, AreTileNumbersBy, HaveTiles};
 ghost use Rattle.engine.specs.FaceBorders.{AreRoundedBorders};
 ghost use Rattle.layers.specs.Segments.{AllInLimit};
+ghost use Rattle.tile_book.specs.Books.{KeepsHeld, StandInOrder};
 ghost use Rattle.engine.specs.Rounds.{AreCellBins, IsRemade, TellsTiles};
 
 use crate::cell_parts::cells_with_bins;
@@ -31,7 +32,9 @@ use std::marker::{Brand, PhantomData};
 use std::sync::Wait;
 use std::sync::ledger::Blank;
 use std::thread::Threads;
-use tile_book::{AllPieces, FilledBook, Gate, Job, Limited, MOST_HANDS, Phase, complete, fill};
+use tile_book::{
+    AllPieces, FilledBook, Gate, Job, Limited, MOST_HANDS, MOST_NUMBERS, Phase, complete, fill,
+};
 
 /// Makes the piece of each cell from the segments in its bin.
 #[derive(Drop)]
@@ -157,20 +160,55 @@ fn by_cells<
     ensures tiles { IfOk result (λ r. AreTileNumbersBy all_copies grid.now limited.entry.list.now copies.now (tile_count grid.now) r.tiles.items) }
     ensures remade { IfOk result (λ r. IsRemade r.remade) }
 {
-    let segments = limited.list;
     let job = Pieces::<T, A>::over(cells, &bins, limited);
-    let count = cells.tiles();
     let filled: FilledBook<TilePiece<T, A>, L, A> = fill(
         rt,
         alloc,
         blank,
-        count,
+        cells.tiles(),
         workers,
         &job,
         Phase::Route,
         gate,
     )?;
-    let AllPieces { pieces, remade } = complete(alloc, &job, filled.book)?;
+    gathered_copies(
+        rt, alloc, filled, grid, cells, bins, workers, limited, copies,
+    )
+}
+
+/// The rounded edges of the pieces that the workers have made. Those that came back are made again, and no other one: their number is
+/// `remade`.
+fn gathered_copies<
+    L: Limited,
+    T: Tiled + Sync,
+    A: Allocator + Copy + Send + Sync,
+    R: Threads + Sync,
+>(
+    rt: &R,
+    alloc: A,
+    filled: FilledBook<TilePiece<T, A>, L, A>,
+    grid: &Grid,
+    cells: &Grid,
+    bins: KeptBins<A>,
+    workers: u32,
+    limited: LimitedSegments<'_>,
+    copies: &[Copies],
+) -> Result<Rounded<A>, NoMemory>
+    requires limit { filled.book.limit ≡ tile_count cells.now }
+    requires few { filled.book.limit ≤ MOST_NUMBERS }
+    requires counted { length filled.book.accepted + filled.returned ≡ filled.book.limit }
+    requires bins { ∥ AreCellBins cells.now limited.list.now bins ∥₁ }
+    requires tiled { (cells.now ≡ T.grid) × (limited.list.now ≡ T.segments) }
+    requires covered_by_cells { HaveTiles cells.now limited.list.now }
+    requires covered { HaveTiles grid.now limited.list.now }
+    requires copies { length copies.now ≡ length limited.list.now }
+    ensures rounded { IfOk result (λ r. ∥ AreCopiesRounded limited.entry.list.now copies.now r.edges.items ∥₁) }
+    ensures tiles { IfOk result (λ r. AreTileNumbersBy all_copies grid.now limited.entry.list.now copies.now (tile_count grid.now) r.tiles.items) }
+    ensures remade { IfOk result (λ r. r.remade ≡ filled.returned) }
+{
+    let segments = limited.list;
+    let job = Pieces::<T, A>::over(cells, &bins, limited);
+    let AllPieces { pieces, remade } = whole_pass(alloc, &job, filled)?;
     drop(bins);
     let parts = gathering_parts(workers, &pieces, segments);
     gather_made_in_parts(
@@ -241,25 +279,79 @@ fn features_by_cells<
     ensures tiles { IfOk result (λ r. AreTileNumbers grid.now limited.entry.list.now (tile_count grid.now) r.tiles.items) }
     ensures remade { IfOk result (λ r. IsRemade r.remade) }
 {
-    let segments = limited.list;
     let job = Pieces::<T, A>::over(cells, &bins, limited);
-    let count = cells.tiles();
     let filled: FilledBook<TilePiece<T, A>, L, A> = fill(
         rt,
         alloc,
         blank,
-        count,
+        cells.tiles(),
         workers,
         &job,
         Phase::Route,
         gate,
     )?;
-    let AllPieces { pieces, remade } = complete(alloc, &job, filled.book)?;
+    gathered_borders(
+        rt, alloc, filled, grid, cells, bins, workers, limited, owners,
+    )
+}
+
+/// The borders of features, of the pieces that the workers have made. Those that came back are made again, and no other one: their
+/// number is `remade`.
+fn gathered_borders<
+    L: Limited,
+    T: Tiled + Sync,
+    A: Allocator + Copy + Send + Sync,
+    R: Threads + Sync,
+>(
+    rt: &R,
+    alloc: A,
+    filled: FilledBook<TilePiece<T, A>, L, A>,
+    grid: &Grid,
+    cells: &Grid,
+    bins: KeptBins<A>,
+    workers: u32,
+    limited: LimitedSegments<'_>,
+    owners: &[u32],
+) -> Result<RoundedBorders<A>, NoMemory>
+    requires limit { filled.book.limit ≡ tile_count cells.now }
+    requires few { filled.book.limit ≤ MOST_NUMBERS }
+    requires counted { length filled.book.accepted + filled.returned ≡ filled.book.limit }
+    requires bins { ∥ AreCellBins cells.now limited.list.now bins ∥₁ }
+    requires tiled { (cells.now ≡ T.grid) × (limited.list.now ≡ T.segments) }
+    requires covered_by_cells { HaveTiles cells.now limited.list.now }
+    requires covered { HaveTiles grid.now limited.list.now }
+    requires owners { length owners.now ≡ length limited.list.now }
+    ensures borders { IfOk result (λ r. AreRoundedBorders limited.entry.list.now owners.now r) }
+    ensures tiles { IfOk result (λ r. AreTileNumbers grid.now limited.entry.list.now (tile_count grid.now) r.tiles.items) }
+    ensures remade { IfOk result (λ r. r.remade ≡ filled.returned) }
+{
+    let segments = limited.list;
+    let job = Pieces::<T, A>::over(cells, &bins, limited);
+    let AllPieces { pieces, remade } = whole_pass(alloc, &job, filled)?;
     drop(bins);
     let parts = gathering_parts(workers, &pieces, segments);
     gather_borders_in_parts(
         rt, alloc, parts, pieces, remade, cells, grid, segments, owners,
     )
+}
+
+/// The pieces of a pass in the order of their numbers: those that its book holds, and a new one for each that came back. So `remade` is
+/// the number of those that came back, and none is made again where none did.
+fn whole_pass<L: Limited, J: Job<A>, A: Allocator + Copy>(
+    alloc: A,
+    job: &J,
+    filled: FilledBook<J::Piece, L, A>,
+) -> Result<AllPieces<J::Piece, A>, NoMemory>
+    requires few { filled.book.limit ≤ MOST_NUMBERS }
+    requires count { filled.book.limit ≤ J.count job.now }
+    requires counted { length filled.book.accepted + filled.returned ≡ filled.book.limit }
+    ensures one_each { IfOk result (λ all. length all.pieces.items ≡ filled.book.limit) }
+    ensures in_order { IfOk result (λ all. StandInOrder J.Piece.Numbered.number_of all.pieces.items) }
+    ensures kept { IfOk result (λ all. KeepsHeld filled.book.held all.pieces.items) }
+    ensures remade { IfOk result (λ all. all.remade ≡ filled.returned) }
+{
+    let all = complete(alloc, job, filled.book)?;
+    Ok(all)
 }
 
 /// In how many parts the pieces of segments are gathered: by their records, with those of both ends of each segment.

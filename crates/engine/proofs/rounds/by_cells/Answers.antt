@@ -5,5 +5,5 @@ use Rattle.engine.proofs.rounds.by_cells.Goals as goal
 
 pub returns-clause-remade : goal.returns-clause-remade
 returns-clause-remade g c =
-    let few : c.in_ok-pieces.remade ≤ MOST_NUMBERS = omega (arith, c.in_ok-pieces.ensures.few, c.in_ok-filled.ensures.limit, c.tiles-count.ensures.few) in
-    IfOk-weaker c.gather_made_in_parts.result _ _ (λ r e. omega (arith, e, few)) c.gather_made_in_parts.ensures.remade
+    let few : c.in_ok-filled.filled.returned ≤ MOST_NUMBERS = omega (arith, c.in_ok-filled.ensures.counted, c.tiles.ensures.few) in
+    IfOk-weaker c.gathered_copies.result _ _ (λ r e. omega (arith, e, few)) c.gathered_copies.ensures.remade
