@@ -9,9 +9,9 @@ _overlay() {
     --workers) COMPREPLY=($(compgen -W "1 2 4 8 16 32 64" -- "$word")); return ;;
   esac
   for ((k = 1; k < COMP_CWORD; k++)); do
-    [[ " $commands faces " == *" ${COMP_WORDS[k]} "* ]] && given=1
+    [[ " $commands faces noded " == *" ${COMP_WORDS[k]} "* ]] && given=1
   done
-  ((COMP_CWORD == 1)) && commands+=" faces"
+  ((COMP_CWORD == 1)) && commands+=" faces noded"
   if [[ $word == -* ]]; then
     COMPREPLY=($(compgen -W "--tile --workers --segments --report --covered --areas --help" -- "$word"))
   elif ((given)); then

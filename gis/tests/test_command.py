@@ -181,7 +181,7 @@ def completed(name, *words):
 
 
 def test_bash_completes_verbs_options_and_commands():
-    assert completed("overlay", "") == {"union", "intersection", "difference", "symdifference", "edges", "faces"}
+    assert completed("overlay", "") == {"union", "intersection", "difference", "symdifference", "edges", "faces", "noded"}
     assert completed("overlay", "--") == {"--tile", "--workers", "--segments", "--report", "--covered", "--areas", "--help"}
     assert completed("overlay-gis", "") == set(cli.VERBS)
     for verb in cli.VERBS:
