@@ -20,7 +20,7 @@ _overlay_gis() {
     run) options="$out --parity --polygons-only --keep-a --keep-b $grid $most --engine --scheduler --dir --memory --workers" ;;
     faces) options="$out --parts --polygons-only --keep-a --keep-b --keep --by --pairs $grid $most" ;;
     dissolve) options="$out --by --parts --polygons-only $grid $most" ;;
-    check) options="$out --json --gap-width --gap-area --sliver-width $grid $most" ;;
+    check) options="$out --json --report --gap-width --gap-area --sliver-width $grid $most" ;;
     tiles) options="--out --overwrite --zooms --keep --by --ids --buffer --simplify --small --full --only --changed --tile-limit --system $most --workers" ;;
     to-grid) options="--out --frame --dissolve --polygons-only $grid" ;;
     from-grid) options="$out --frame" ;;

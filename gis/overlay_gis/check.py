@@ -11,20 +11,22 @@ from osgeo import osr
 
 from . import frame as frames
 from . import options
-from .columns import Columns, Floats
+from .columns import Columns, Floats, GridPolygon
 from .common_grid import alone, on_grid, warn_of_losses
 from .destination import destination
 from .faults import FOUND, Refusal
 from .findings import BARE, CROSSES, INVALID, LAYER, OPEN, SHORT, STRANGE, UNBOUND, Finding, Units, as_json, table_of, table_without_shapes
 from .flaws import Flaws, Sizes, found_in, usual_sizes
 from .frame import Frame
-from .layers import Kind, Source, Survey, common_system
+from .layers import Kind, Source, Survey, common_system, files_of
 from .messages import followed, tell
 from .output import Table
 from .rings import LEAST_RING, Gridded, opened
+from .report import Report
 from .rows import Rows
 from .surveys import look_at_columns
 from .systems import area_name, unit_name
+from .whole import Target, draft, target_of
 
 EXAMPLE = "overlay-gis check parcels.gpkg -o flaws.gpkg --gap-width 0.5"
 
@@ -39,6 +41,12 @@ def add_arguments(parser: ArgumentParser) -> None:
         required=False,
     )
     parser.add_argument("--json", action="store_true", help="prints all findings as one line of JSON, in place of a line for each")
+    parser.add_argument(
+        "--report",
+        metavar="PAGE.html",
+        type=options.given,
+        help="a page of HTML with counts, areas, a map and a picture of each finding, which opens anywhere and can be printed",
+    )
     options.add_sizes(parser)
     options.add_grid(parser)
     options.add_segments(parser)
@@ -127,6 +135,15 @@ class Covered:
             yield from map(units.finding, flaws.chosen(~flaws.thin).each())
 
 
+    def drawn(self, alone: Sequence[Finding], units: Units) -> Iterator[tuple[Finding, list[GridPolygon]]]:
+        """All findings, each with its polygons on the grid: those of its feature, or its own."""
+        shapes = dict(zip(self.grid.layer.ids.tolist(), self.grid.layer.lists()))
+        for finding in alone:
+            yield finding, shapes.get(finding.ids[0], []) if finding.ids else []
+        for flaws in (self.overlaps, self.gaps):
+            told = flaws.chosen(~flaws.thin)
+            yield from zip(map(units.finding, told.each()), told.shapes.lists())
+
     def table(self, alone: Sequence[Finding], units: Units) -> Table:
         """All that was found, with what is wrong with each feature alone, as a layer."""
         return table_of(alone, self.grid.layer, [self.overlaps, self.gaps], self.frame, units)
@@ -159,8 +176,10 @@ def frame_of(source: Source, seen: Checked, system: osr.SpatialReference | None,
 
 def main(arguments: Namespace) -> int:
     if not arguments.out:
-        options.refuse_beside(arguments, ("layer", "append", "overwrite"), "there is no -o that it could be about")
+        about = ("layer", "append") if arguments.report else ("layer", "append", "overwrite")
+        options.refuse_beside(arguments, about, "there is no -o that it could be about")
     source = Source(arguments.a)
+    page = target_of(arguments.report, arguments.overwrite, files_of([source])) if arguments.report else None
     place = destination(arguments, [source]) if arguments.out else None
     system = common_system([source], arguments.system)
     seen = look_through(source)
@@ -178,9 +197,19 @@ def main(arguments: Namespace) -> int:
         for finding in seen.findings:
             tell(f"{source.name}: {finding.line()}")
         tell(f"{source.name}: {', '.join(summary(seen, held, units.square))}")
+    if page:
+        lines = [*([frame.told(system)] if frame else []), *details(held, areas(seen, held), units.square)]
+        drawn = list(held.drawn(alone, units)) if held else [(finding, []) for finding in alone]
+        written(page, Report(source.name, seen.survey.features, lines, units.square, drawn, held.grid.layer if held else None).page())
     if place:
         place.write(system, held.table(alone, units) if held else table_without_shapes(alone))
     return FOUND if seen.findings else 0
+
+
+def written(target: Target, text: str) -> None:
+    """Puts a text in its place."""
+    with draft(target) as folder:
+        (folder / target.path.name).write_text(text, encoding="utf-8")
 
 
 def areas(seen: Checked, held: Covered | None) -> dict[str, float]:
@@ -191,8 +220,13 @@ def areas(seen: Checked, held: Covered | None) -> dict[str, float]:
 def summary(seen: Checked, held: Covered | None, name: str) -> Iterator[str]:
     yield f"{seen.survey.features:,} features"
     yield f"{len(seen.findings):,} findings"
+    yield from details(held, areas(seen, held), name)
+
+
+def details(held: Covered | None, told: dict[str, float], name: str) -> Iterator[str]:
+    """What is only counted, and the areas where they are known."""
     for flaws, kind in ((held.overlaps, "overlaps"), (held.gaps, "gaps")) if held else ():
         if thin := int(flaws.thin.sum()):
             yield f"{thin:,} {kind} narrower than a grid unit"
-    if told := areas(seen, held):
+    if told:
         yield f"areas {told['sum']:,.10g} {name} in sum, {told['parity']:,.10g} by parity"

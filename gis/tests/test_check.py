@@ -1,6 +1,8 @@
 """check: what is wrong with a layer, and nothing where nothing is."""
 
 import json
+from collections import defaultdict
+from html.parser import HTMLParser
 
 import pytest
 from osgeo import ogr
@@ -8,6 +10,7 @@ from shapely.geometry import LineString, Polygon, box
 from shapely.ops import unary_union
 
 from conftest import EAST, NORTH, parcels, read, write
+from overlay_gis import report
 from test_faces import heap
 
 SQUARE = box(EAST, NORTH, EAST + 10, NORTH + 10)
@@ -259,3 +262,65 @@ def test_what_is_about_an_output_needs_one(gis, tmp_path, words):
     answer = gis("check", write(tmp_path / "a.gpkg", [SQUARE]), *words)
     told = " and ".join(word for word in words if word.startswith("--"))
     assert (answer.status, answer.out, answer.err) == (3, "", f"overlay-gis: {told}: there is no -o that it could be about\n")
+
+
+class Page(HTMLParser):
+    """The texts of a page's elements by their tags, and all attributes."""
+
+    def __init__(self, path):
+        super().__init__()
+        self.texts, self.attributes, self.open = defaultdict(list), [], []
+        self.feed(path.read_text())
+
+    def handle_starttag(self, tag, attributes):
+        self.open.append(tag)
+        self.attributes += [(tag, name, value) for name, value in attributes]
+
+    def handle_endtag(self, tag):
+        while self.open.pop() != tag:
+            pass
+
+    def handle_data(self, data):
+        if self.open:
+            self.texts[self.open[-1]].append(data)
+
+
+def test_a_page_has_each_finding_with_a_picture(gis, tmp_path):
+    bow = Polygon([(EAST + 50, NORTH), (EAST + 54, NORTH + 4), (EAST + 54, NORTH), (EAST + 50, NORTH + 4), (EAST + 50, NORTH)])
+    shapes = [SQUARE, box(EAST + 8, NORTH + 2, EAST + 12, NORTH + 4), bow, None]
+    status, _ = checked(gis, write(tmp_path / "a<b>.gpkg", shapes), "--report", "page.html", "--grid", "1", "--origin", f"{EAST},{NORTH}")
+    page = Page(tmp_path / "page.html")
+    assert status == 4 and page.texts["h1"] == [f"Check of {tmp_path}/a<b>.gpkg"]
+    assert page.texts["td"][:9] == ["crosses itself", "1", "no geometry", "1", "overlap", "1", "4", "crosses itself", "3"]
+    assert page.texts["figcaption"] == [f"feature 3: Self-intersection[{EAST + 52} {NORTH + 2}]", "features 1 and 2: overlap by 4 m²"]
+    drawn = [value for tag, name, value in page.attributes if (tag, name) == ("path", "d")]
+    assert len(drawn) == 2 * 3
+    # The overlap is a square of 2 by 2 units and takes 0.6 of a picture of 260 pixels: from 52 to 208.
+    assert drawn[-1] == "M52.0 208.0L208.0 208.0L208.0 52.0L52.0 52.0Z"
+    # Nothing comes from elsewhere.
+    assert not [name for _, name, _ in page.attributes if name in ("src", "href")] and "http" not in (tmp_path / "page.html").read_text()
+
+
+def test_a_page_is_whole_or_as_it_was(gis, tmp_path):
+    a = write(tmp_path / "a.gpkg", [SQUARE])
+    (tmp_path / "page.html").write_text("old")
+    assert gis("check", a, "--report", "page.html").status == 3 and (tmp_path / "page.html").read_text() == "old"
+    assert gis("check", a, "--report", a, "--overwrite").status == 3
+    assert gis("check", a, "--report", "page.html", "--overwrite").status == 0
+    assert Page(tmp_path / "page.html").texts["p"][0] == "1 features, 0 findings."
+
+
+def test_a_page_of_many_findings_draws_the_first(gis, tmp_path, monkeypatch):
+    monkeypatch.setattr(report, "PICTURES", 3)
+    monkeypatch.setattr(report, "POINTS", 10)
+    a = write(tmp_path / "a.gpkg", [box(EAST + 5 * k, NORTH, EAST + 5 * k + 3, NORTH + 3) for k in range(5)] * 2)
+    assert checked(gis, a, "--report", "page.html")[0] == 4
+    page = Page(tmp_path / "page.html")
+    assert len(page.texts["figcaption"]) == 3 and "The first 3 of 5 findings are drawn; the table has all." in page.texts["p"]
+    assert page.texts["td"].count("double") == 6
+
+
+def test_a_page_of_a_layer_without_polygons(gis, tmp_path):
+    assert checked(gis, write(tmp_path / "a.gpkg", [None]), "--report", "page.html")[0] == 4
+    page = Page(tmp_path / "page.html")
+    assert page.texts["td"][-3:] == ["no geometry", "1", "feature 1: no geometry"] and not page.texts["figcaption"]
