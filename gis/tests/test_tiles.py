@@ -26,7 +26,7 @@ from overlay_gis.calls import Cancelled, call
 from overlay_gis.columns import of_polygons
 from overlay_gis.rows import Members
 from overlay_gis.tiles import add_arguments, archives, levels, simplifying, small
-from overlay_gis.tiles.world import EXTENT, HALF, Tile
+from overlay_gis.tiles.world import EXTENT, HALF, Tile, rounded
 from test_kills import stopped  # noqa: F401 a fixture
 from test_tiles_judge import LAND, WEB, tiles_of
 from test_tiles_reading import decoded
@@ -77,6 +77,15 @@ def test_a_square_by_hand(gis, tmp_path):
     assert second.polygons == [[[(130, 120), (4032, 120), (4160, 120), (4160, 150), (4032, 150), (130, 150)]]]
     (other,) = found["8/129/80"]["a"]
     assert other.number == 2 and other.shape().equals(box(-64, 120, 500, 150))
+
+
+@pytest.mark.parametrize("zoom", [0, 5, 22])
+def test_halves_go_to_the_right_and_down(zoom):
+    """From the middle of the square half a unit to each side: a unit of zoom z is HALF / (2048 * 2^z)."""
+    half, middle = HALF / (4096 << zoom), 2048 << zoom
+    shape = of_polygons([[[(0, 0), (1, 0), (1, 1), (0, 1)]]]).at(np.array([half, -half, half, -half]), np.array([half, half, -half, -half]))
+    found = rounded(shape, zoom)
+    assert (found.x - middle).tolist() == [1, 0, 1, 0] and (found.y - middle).tolist() == [0, 0, 1, 1]
 
 
 @pytest.mark.parametrize("buffer", [0, 1, 2047])
