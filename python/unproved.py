@@ -19,8 +19,8 @@ sys.path.insert(0, os.path.join(os.path.dirname(HERE), "bench"))
 
 from overlay_bench import unproved  # noqa: E402
 
-# The crates of the library for C that the program hasn't, and a stand-in for the crate of which they have blocks of memory.
-CRATES = tuple(name for name in ("phases", "parts_law", "strip_polygons", "polygon_order", "overlay_c") if name not in unproved.CRATES)
+# The crates of the library for C that the program has no need of, and a stand-in for the crate of which they have blocks of memory.
+CRATES = ("phases", "parts_law", "strip_polygons", "polygon_order", "overlay_c")
 BUMPALO = """
 use crate::kit::alloc::{AllocError, Allocator};
 
@@ -105,7 +105,8 @@ def read(path: str) -> str:
 
 def write_library(folder: str) -> str:
     """Writes the library's Rust into a folder, and answers its main file."""
-    main = read(unproved.write_program(folder, (*unproved.CRATES, *CRATES)))
+    below = [name for name in unproved.CRATES if name not in CRATES]
+    main = read(unproved.write_program(folder, (*below, *CRATES)))
     for crate in CRATES:
         for name in os.listdir(os.path.join(folder, crate)):
             path = os.path.join(folder, crate, name)

@@ -10,6 +10,7 @@ import signal
 import sys
 from collections.abc import Callable, Iterator
 from dataclasses import dataclass
+from functools import partial
 from types import ModuleType
 from typing import Protocol
 
@@ -78,13 +79,19 @@ class Library:
     def answer(self, texts: Texts, wanted: Plan) -> Answer:
         signal.setitimer(signal.ITIMER_REAL, self.seconds)
         try:
-            return Answer(0, getattr(self.package, wanted.command)(*texts, side=wanted.side), b"")
+            return Answer(0, call_of(self.package, wanted.command)(*texts, side=wanted.side), b"")
         except self.package.Refused as refused:
             return Answer(3, b"", b"overlay: %s\n" % str(refused).encode())
         except self.package.OutOfMemory as fault:
             return Answer(1, b"", b"overlay: %s\n" % str(fault).encode())
         finally:
             signal.setitimer(signal.ITIMER_REAL, 0)
+
+
+def call_of(library: ModuleType, command: str) -> Callable[..., bytes]:
+    """The call that answers as a command of the program does, which reads layers by the even-odd rule."""
+    call: Callable[..., bytes] = getattr(library, command)
+    return call if command == "edges" else partial(call, reading="parity")
 
 
 def package() -> ModuleType:

@@ -61,7 +61,7 @@ def main(arguments: argparse.Namespace) -> int:
             for size in arguments.sizes:
                 programs.apart(lambda: maps.write(kind, size, files))
                 for command in arguments.commands:
-                    ours, theirs, same = row(arguments.program, getattr(library, command), command, files, os.path.join(folder, "out"), arguments.rounds)
+                    ours, theirs, same = row(arguments.program, answering.call_of(library, command), command, files, os.path.join(folder, "out"), arguments.rounds)
                     note = "" if same else " bytes differ"
                     print("| %s | %s | %s | %.2f | %.2f | %s |%s" % (kind, "{:,}".format(size), command, ours, theirs, "%.2f" % (ours / theirs) if theirs else "", note), flush=True)
                     wrong |= not same

@@ -392,7 +392,7 @@ def directed_edges(
     operation: Operation, parts: Sequence[Part], cuts: Any, folder: str, executor: Optional[Any] = None
 ) -> Iterator[Any]:
     """The directed edges of the result of an operation on both layers, an array for each strip: those along its own edges, ascending by start,
-    then by end.
+    then by end. Layers are read by parity: features that overlap cancel each other.
 
     folder, executor: as of `edges`.
     """

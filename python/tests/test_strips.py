@@ -43,7 +43,7 @@ def whole(a, b):
 def rings(operation, a, b):
     """The directed edges of the rings of the whole layers' result."""
     found = []
-    for ring in re.findall(r"\(([^()]+)\)", overlay_grid.overlay(operation, text_of(a), text_of(b))):
+    for ring in re.findall(r"\(([^()]+)\)", overlay_grid.overlay(operation, text_of(a), text_of(b), reading="parity")):
         points = [tuple(map(int, point.split())) for point in ring.split(",")]
         found += [(*p, *q) for p, q in zip(points, points[1:])]
     return sorted(found)
@@ -226,7 +226,7 @@ def test_ranges_of_strips_have_the_polygons_of_the_whole(seed, tmp_path):
     cuts = sorted(rng.randint(-size - 1, size + 1) for _ in range(rng.choice((0, 1, 2, 5, 12))))
     for operation in (Operation.UNION, Operation.SYMDIFFERENCE):
         directed = sorted(tuples(strips.directed_edges(operation, [part_of(0, a), part_of(1, b)], cuts, str(tmp_path))))
-        wanted = of_text(overlay_grid.overlay(operation, text_of(a), text_of(b)))
+        wanted = of_text(overlay_grid.overlay(operation, text_of(a), text_of(b), reading="parity"))
         assert lists_of(strips.polygons(numpy.array(directed, strips.DIRECTED))) == wanted
         made = closed_in_turn(rng, cuts, directed)
         rng.shuffle(made)
