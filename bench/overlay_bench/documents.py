@@ -1,11 +1,12 @@
-"""reports what the documents name and the repository doesn't have: paths, lemmas, calls and definitions, lemma files of geom that PROOFS leaves out, lines longer than they may be, and what is made of bench/results or of the sources and isn't the same any more
+"""reports what the documents name and the repository doesn't have: paths, lemmas, calls and definitions, lemma files of geom that PROOFS leaves out, lines and sentences longer than they may be, and what is made of bench/results or of the sources and isn't the same any more
 
 Whatever stands between backquotes in a text of Markdown is looked at. A path stands below the root or below a crate, with or without its
 ending; `File.lemma` is a lemma of a file of that name; in CONTRACTS, MAP and PROOFS each longer word has to stand somewhere in crates/.
 A line of Markdown has at most 100 columns, but for tables, code, and what can't be broken: a link, a path, what is quoted.
-README's table of other tools is made of peers.tsv and capabilities.tsv, docs/speed.svg of peers.tsv and speed.tsv, and docs/BELIEVED.md of the
-sources: `--write` makes them anew.
-The exit status is 1 where something is missing.
+A sentence has at most 30 words, as `sentences` counts them; each one that has more is a fault, with a line of its own.
+README's table of other tools is made of peers.tsv, docs/speed.svg of peers.tsv and speed.tsv, and docs/BELIEVED.md of the sources:
+`--write` makes them anew.
+Each fault is printed on a line, and the exit status is 1 where there is one.
 """
 from __future__ import annotations
 
@@ -15,7 +16,7 @@ import os
 import re
 from collections.abc import Iterator
 
-from . import believed, compared, plot, programs
+from . import believed, compared, plot, programs, sentences
 
 QUOTED = re.compile(r"`([^`\n]+)`")
 PATH = re.compile(r"[\w.*-]*(/[\w.*-]+)+/?")
@@ -99,31 +100,35 @@ def made() -> Iterator[tuple[str, str]]:
     yield believed.PAGE, believed.page()
 
 
+def stale() -> Iterator[str]:
+    """The files that aren't as they are made."""
+    return (path for path, wanted in made() if not os.path.exists(path) or text_of(path) != wanted)
+
+
 def write() -> None:
     for path, wanted in made():
         with open(path, "w", encoding="utf-8") as file:
             file.write(wanted)
 
 
+def faults(documents: list[str]) -> Iterator[str]:
+    """A line for each fault of the documents."""
+    sources = Sources()
+    yield from ("%s isn't as it is made: bench/run documents --write" % path for path in stale())
+    for document in documents:
+        yield from ("%s: %s isn't there" % (document, name) for name in missing(document, sources))
+        yield from ("%s: line %d has more than %d columns" % (document, number, MOST_COLUMNS) for number in long_lines(document))
+    yield from sentences.faults(".")
+    yield from ("docs/PROOFS.md: %s of crates/geom/proofs isn't listed" % name for name in unlisted())
+
+
 def main(arguments: argparse.Namespace) -> int:
     os.chdir(programs.ROOT)
     if arguments.write:
         write()
-    sources, wrong = Sources(), 0
-    for path, wanted in made():
-        if not os.path.exists(path) or text_of(path) != wanted:
-            wrong += 1
-            print("%s isn't as it is made: bench/run documents --write" % path)
-    documents = sorted(glob.glob("**/*.md", recursive=True) + glob.glob(".github/**/*.md", recursive=True))
-    for document in documents:
-        for name in missing(document, sources):
-            wrong += 1
-            print("%s: %s isn't there" % (document, name))
-        for number in long_lines(document):
-            wrong += 1
-            print("%s: line %d has more than %d columns" % (document, number, MOST_COLUMNS))
-    for name in unlisted():
+    documents, wrong = sentences.documents("."), 0
+    for fault in faults(documents):
         wrong += 1
-        print("docs/PROOFS.md: %s of crates/geom/proofs isn't listed" % name)
+        print(fault)
     print("%d documents read; faults found: %d" % (len(documents), wrong))
     return int(wrong > 0)
