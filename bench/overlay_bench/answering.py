@@ -91,7 +91,9 @@ class Library:
 def call_of(library: ModuleType, command: str) -> Callable[..., bytes]:
     """The call that answers as a command of the program does, which reads layers by the even-odd rule."""
     call: Callable[..., bytes] = getattr(library, command)
-    return call if command == "edges" else partial(call, reading="parity")
+    if command != "edges":
+        call = partial(call, reading="parity")
+    return call
 
 
 def package() -> ModuleType:
