@@ -112,7 +112,7 @@ def failing(error):
 # Where something that isn't GDAL's fails while GDAL is at work: in the verb, on features that are
 # read, and on those that are written.
 PLACES = [
-    (run, "answer"),
+    (run, "by_cover"),
     (texts, "points_text"),
     (layers.wkb, "Decoder"),
     (output, "add"),

@@ -235,7 +235,7 @@ def test_the_drawing_is_the_same_and_has_each_series(tmp_path, monkeypatch):
 
 def test_what_is_made_of_the_results_is_what_stands_here(monkeypatch):
     monkeypatch.chdir(TOP)
-    for path, wanted in documents.made_of_results():
+    for path, wanted in documents.made():
         assert Path(path).read_text() == wanted
 
 

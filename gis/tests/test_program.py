@@ -4,6 +4,7 @@ command."""
 import os
 import signal
 import sqlite3
+from contextlib import suppress
 from pathlib import Path
 
 import pytest
@@ -124,9 +125,9 @@ def test_a_refusal_ends_the_runs_that_go_on(gis, tmp_path, begun, pretend):
 @pytest.fixture
 def handled():
     """Signals as a command has them, also where who began the tests had some ignored, as nohup
-    does."""
+    does. One that came in the test is raised once more at its end, as at a command's."""
     held = {number: signal.signal(number, signal.SIG_DFL) for number in stopping.SIGNALS}
-    with stopping.stoppable():
+    with suppress(Stopped), stopping.stoppable():
         yield
     for number, handler in held.items():
         signal.signal(number, handler)
