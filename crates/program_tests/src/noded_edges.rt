@@ -1,5 +1,7 @@
 //! Texts of edges that are tested, as the program answers: values written down by hand.
 
+ghost use Rattle.std.specs.Prelude.{◌<◌};
+
 use engine::MemSink;
 use geom::NoMemory;
 use program::{Files, LoadFault, drive};
@@ -168,7 +170,10 @@ fn answer<R: Threads + Wait + Sync>(
     text: &str,
     out: &mut MemSink<Global>,
     err: &mut MemSink<Global>,
-) -> Result<u8, NoMemory> {
+) -> Result<u8, NoMemory>
+    requires out { out.old.failures < u64.MAX }
+    requires err { err.old.failures < u64.MAX }
+{
     let mut words = Vec::new(alloc);
     words.push("overlay")?;
     words.push("noded")?;
