@@ -14,7 +14,7 @@ const HELP: &str =
 Usage: overlay [OPTIONS] <command> <A> <B>
 
 Arguments:
-  <command>  What to compute: union, intersection, difference, symdifference, edges or faces
+  <command>  What to compute: union, intersection, difference, symdifference, edges, faces or noded
   <A>        The first layer's file: POLYGON and MULTIPOLYGON texts
   <B>        The second layer's file
 
@@ -33,6 +33,9 @@ edges prints a line `x1 y1 x2 y2 countA countB` for each edge of both layers aft
 faces, which stands before all other words, takes 1 to 64 layers, and prints a line for each set of
 their features (polygon texts, numbered from 1) that covers some points together: twice the area, the
 numbers of each layer's features, and the points as one MULTIPOLYGON text, with tabs between.
+noded, which stands before all other words too, takes one file of lines `x1 y1 x2 y2`, as edges prints
+them or another tool, and --workers N. It prints `noded` where no two different edges share a point but
+a common end, and else refuses the least pair that does.
 
 A layer is a text of POLYGON and MULTIPOLYGON geometries, at most 268435456 bytes long, with whole
 coordinates from -268435456 to 268435456, in grid units. All layers together have at most 1048576
@@ -67,7 +70,7 @@ const FACES_HELP: &str =
 Usage: overlay [OPTIONS] <command> <LAYER>...
 
 Arguments:
-  <command>   What to compute: union, intersection, difference, symdifference, edges or faces
+  <command>   What to compute: union, intersection, difference, symdifference, edges, faces or noded
   <LAYER>...  The layers' files, 64 at most: POLYGON and MULTIPOLYGON texts
 
 Options:
@@ -83,6 +86,9 @@ edges prints a line `x1 y1 x2 y2 countA countB` for each edge of both layers aft
 faces, which stands before all other words, takes 1 to 64 layers, and prints a line for each set of
 their features (polygon texts, numbered from 1) that covers some points together: twice the area, the
 numbers of each layer's features, and the points as one MULTIPOLYGON text, with tabs between.
+noded, which stands before all other words too, takes one file of lines `x1 y1 x2 y2`, as edges prints
+them or another tool, and --workers N. It prints `noded` where no two different edges share a point but
+a common end, and else refuses the least pair that does.
 
 A layer is a text of POLYGON and MULTIPOLYGON geometries, at most 268435456 bytes long, with whole
 coordinates from -268435456 to 268435456, in grid units. All layers together have at most 1048576
